@@ -1,0 +1,6 @@
+pub mod Refusals
+pub mod Lengths
+pub mod Columns
+pub mod Sums
+pub mod Unchecked
+pub mod JacobianOps

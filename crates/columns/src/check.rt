@@ -1,0 +1,135 @@
+// The check that columns keep the rules: refusals 1, 2 and 3.
+use crate::refusal::Answer;
+use crate::refusal::Refusal;
+use crate::unchecked::end_place;
+use crate::unchecked::first_place;
+use ground::wide;
+ghost use mathlib.Core.Path.{_≡_};
+ghost use mathlib.Core.Bool.{_||_};
+ghost use Prim.Native.Nat.{_-_, _<_};
+ghost use lib.Dec.{leb, ltb};
+ghost use lib.ListN.{length};
+ghost use Rattle.ground.specs.First.{first};
+ghost use Rattle.columns.specs.Refusals.{told};
+ghost use Rattle.columns.specs.Columns.{columnsOf, tooBig, falls, badShape, rowBad, badRow, checked, Shaped};
+ghost use Rattle.columns.specs.Unchecked.{RunThere};
+
+const MOST_ROWS: usize = 1_048_576;
+
+const MOST_COLUMNS: usize = 65_536;
+
+const MOST_ENTRIES: usize = 16_777_216;
+
+// One fewer than the pointers; 0 where there are none.
+pub fn column_count(ptrs: &[u32]) -> usize
+    ensures { λ r. ⌜ r ≡ length (now (ptrs .entry)) - 1 ⌝ }
+{
+    if ptrs.len() == 0 {
+        return 0;
+    }
+    ptrs.len() - 1
+}
+
+fn too_big(nrows: usize, ncolumns: usize, entries: usize) -> bool
+    ensures { λ r. ⌜ r ≡ tooBig nrows ncolumns entries ⌝ }
+{
+    if nrows > MOST_ROWS {
+        return true;
+    }
+    if ncolumns > MOST_COLUMNS {
+        return true;
+    }
+    entries > MOST_ENTRIES
+}
+
+// The first pointer that is above the one after it, or the number of columns.
+fn first_fall(ptrs: &[u32]) -> usize
+    requires { ⌜ 0 < length (now ptrs) ⌝ }
+    ensures { λ r. ⌜ r ≡ first (falls (now (ptrs .entry))) 0 (length (now (ptrs .entry)) - 1) ⌝ }
+{
+    let last = ptrs.len() - 1;
+    for j in 0..last {
+        if ptrs[j + 1] < ptrs[j] {
+            return j;
+        }
+    }
+    last
+}
+
+fn bad_shape(ptrs: &[u32], entries: usize, nvalues: usize) -> bool
+    ensures { λ r. ⌜ r ≡ badShape (now (ptrs .entry)) entries nvalues ⌝ }
+{
+    if ptrs.len() == 0 {
+        return true;
+    }
+    if ptrs[0] != 0 {
+        return true;
+    }
+    let last = ptrs.len() - 1;
+    if first_fall(ptrs) < last {
+        return true;
+    }
+    if wide(ptrs[last]) != entries {
+        return true;
+    }
+    nvalues != entries
+}
+
+// Whether a row is too large, or below the least that may stand at its place.
+fn row_bad(nrows: usize, row: usize, least: usize) -> bool
+    ensures { λ r. ⌜ r ≡ (leb nrows row || ltb row least) ⌝ }
+{
+    if nrows <= row {
+        return true;
+    }
+    row < least
+}
+
+// The first bad entry of the column that begins at `from` and ends before `to`, or `to`.
+fn bad_place(nrows: usize, rows: &[u32], from: usize, to: usize) -> usize
+    requires { ⌜ RunThere (length (now rows)) from to ⌝ }
+    ensures { λ r. ⌜ r ≡ first (rowBad nrows (now (rows .entry)) from) from to ⌝ }
+{
+    let mut least: usize = 0;
+    for p in from..to {
+        let row = wide(rows[p]);
+        if row_bad(nrows, row, least) {
+            return p;
+        }
+        // what comes next stands above this row
+        least = row + 1;
+    }
+    to
+}
+
+// The first column with a bad entry, and the place of its first one.
+fn bad_row(nrows: usize, ptrs: &[u32], rows: &[u32], values: &[f64]) -> Answer
+    requires { ⌜ Shaped (columnsOf nrows (now ptrs) (now rows) (now values)) ⌝ }
+    ensures { λ r. ⌜ told r ≡ badRow (columnsOf nrows (now (ptrs .entry)) (now (rows .entry)) (now (values .entry))) ⌝ }
+{
+    let n = column_count(ptrs);
+    for j in 0..n {
+        let to = end_place(ptrs, j);
+        let p = bad_place(nrows, rows, first_place(ptrs, j), to);
+        if p < to {
+            return Answer::Refused(Refusal::BadRow {
+                column: j,
+                place: p,
+            });
+        }
+    }
+    Answer::Done
+}
+
+// Whether the columns keep the rules: the first rule that is broken.
+pub fn check_columns(nrows: usize, ptrs: &[u32], rows: &[u32], values: &[f64]) -> Answer
+    ensures { λ r. ⌜ told r ≡ checked (columnsOf nrows (now (ptrs .entry)) (now (rows .entry)) (now (values .entry))) ⌝ }
+{
+    if too_big(nrows, column_count(ptrs), rows.len()) {
+        return Answer::Refused(Refusal::TooBig);
+    }
+    if bad_shape(ptrs, rows.len(), values.len()) {
+        return Answer::Refused(Refusal::BadShape);
+    }
+    bad_row(nrows, ptrs, rows, values)
+}

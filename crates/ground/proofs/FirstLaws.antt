@@ -1,0 +1,104 @@
+-- The laws of `first`: what a loop shows that looks for the first place where a test holds, and what the place found is worth. Assumes nothing.
+use mathlib.Core.Path.{_≡_, refl, sym, ap, _∙_}
+use mathlib.Core.Bool.{Bool, true, false, cond}
+use Prim.Native.Nat.{ℕ, zero, suc, _+_, _-_, _≤_, _<_}
+use native.Mathlib.Nat.{le-antisymm, le-trans, le-of-eq}
+use native.Mathlib.Omega.{arith}
+use lib.Dec.{ltb}
+use borrow.Author.Tests.{le-ltb, ltb-true, ltb-false}
+use Rattle.ground.specs.First.{firstN, first, None}
+
+-- what a call that returned r says of its test x
+pub by-call : {r x t : Bool} → r ≡ x → r ≡ t → x ≡ t
+by-call p q = sym p ∙ q
+
+module _ (bad : ℕ → Bool) where
+  pub first-none : (lo hi : ℕ) → hi ≤ lo → first bad lo hi ≡ lo
+  unfolding first firstN
+  first-none lo hi h = let e : hi - lo ≡ 0 = omega arith in rw e
+
+  first-step : (lo hi : ℕ) → lo < hi → first bad lo hi ≡ cond (bad lo) lo (first bad (lo + 1) hi)
+  unfolding first firstN
+  first-step lo hi h =
+      let e : hi - lo ≡ suc (hi - suc lo) = omega arith in
+      let a : lo + 1 ≡ suc lo = omega arith in
+      rw (e, a)
+
+  -- The loop's invariant is that the first place from k on is the one looked for. It holds at the start by `refl`; `first-turn` takes it
+  -- over a turn; `first-stop` is what it says where the test holds, and `first-end` once all places are passed.
+  pub first-turn : {k hi z : ℕ} → k < hi → first bad k hi ≡ z → bad k ≡ false → first bad (k + 1) hi ≡ z
+  first-turn {k} {hi} h inv e = rw (first-step k hi h, e) at inv
+
+  pub first-stop : {k hi z : ℕ} → k < hi → first bad k hi ≡ z → bad k ≡ true → k ≡ z
+  first-stop {k} {hi} h inv e = rw (first-step k hi h, e) at inv
+
+  pub first-end : {k hi z : ℕ} → k ≤ hi → hi ≤ k → first bad k hi ≡ z → hi ≡ z
+  first-end {k} {hi} l h inv = le-antisymm h l ∙ sym (first-none k hi h) ∙ inv
+
+  -- where it lies
+  firstN-low : (n lo : ℕ) → lo ≤ firstN bad lo n
+  unfolding firstN
+  firstN-low zero lo = omega arith
+  firstN-low (suc n) lo = go (bad lo) (firstN-low n (suc lo))
+    where
+      go : (b : Bool) → suc lo ≤ firstN bad (suc lo) n → lo ≤ cond b lo (firstN bad (suc lo) n)
+      go true h = omega arith
+      go false h = omega arith
+
+  pub first-low : (lo hi : ℕ) → lo ≤ first bad lo hi
+  unfolding first
+  first-low lo hi = firstN-low (hi - lo) lo
+
+  -- the test holds nowhere before it
+  firstN-before : (n lo k : ℕ) → lo ≤ k → k < firstN bad lo n → bad k ≡ false
+  unfolding firstN
+  firstN-before zero lo k l h = absurd (omega arith)
+  firstN-before (suc n) lo k l h = go (bad lo) refl h (firstN-before n (suc lo) k)
+    where
+      go : (b : Bool) → bad lo ≡ b → k < cond b lo (firstN bad (suc lo) n) → (suc lo ≤ k → k < firstN bad (suc lo) n → bad k ≡ false) → bad k ≡ false
+      go true e h ih = absurd (omega arith)
+      go false e h ih = at (ltb lo k) refl
+        where
+          at : (b : Bool) → ltb lo k ≡ b → bad k ≡ false
+          at true p = ih (ltb-true lo k p) h
+          at false p = let q : k ≡ lo = le-antisymm (ltb-false lo k p) l in rw q e
+
+  pub first-before : (lo hi : ℕ) → None bad lo (first bad lo hi)
+  unfolding first
+  first-before lo hi k l h = firstN-before (hi - lo) lo k l h
+
+  -- where it is one of the places, the test holds there
+  firstN-bad : (n lo : ℕ) → firstN bad lo n < lo + n → bad (firstN bad lo n) ≡ true
+  unfolding firstN
+  firstN-bad zero lo h = absurd (omega arith)
+  firstN-bad (suc n) lo h = go (bad lo) refl h (firstN-bad n (suc lo))
+    where
+      go : (b : Bool) → bad lo ≡ b → cond b lo (firstN bad (suc lo) n) < lo + suc n
+          → (firstN bad (suc lo) n < suc lo + n → bad (firstN bad (suc lo) n) ≡ true) → bad (cond b lo (firstN bad (suc lo) n)) ≡ true
+      go true e h ih = e
+      go false e h ih = ih (omega arith)
+
+  pub first-bad : (lo hi : ℕ) → first bad lo hi < hi → bad (first bad lo hi) ≡ true
+  unfolding first
+  first-bad lo hi h = firstN-bad (hi - lo) lo (omega (arith, firstN-low (hi - lo) lo))
+
+  -- none is found exactly where the test holds at no place
+  firstN-past : (n lo : ℕ) → ((k : ℕ) → lo ≤ k → k < lo + n → bad k ≡ false) → firstN bad lo n ≡ lo + n
+  unfolding firstN
+  firstN-past zero lo none = omega arith
+  firstN-past (suc n) lo none =
+      rw (none lo (omega arith) (omega arith)) (firstN-past n (suc lo) (λ k l h. none k (omega arith) (omega arith)) ∙ omega arith)
+
+  pub first-past : (lo hi : ℕ) → lo ≤ hi → None bad lo hi → first bad lo hi ≡ hi
+  unfolding first
+  first-past lo hi l none = let e : lo + (hi - lo) ≡ hi = omega arith in firstN-past (hi - lo) lo (λ k p q. none k p (omega arith)) ∙ e
+
+  pub past-none : (lo hi : ℕ) → ltb (first bad lo hi) hi ≡ false → None bad lo hi
+  past-none lo hi e k l h = first-before lo hi k l (le-trans h (ltb-false (first bad lo hi) hi e))
+
+  pub none-past : (lo hi : ℕ) → None bad lo hi → ltb (first bad lo hi) hi ≡ false
+  none-past lo hi none = go (ltb lo hi) refl
+    where
+      go : (b : Bool) → ltb lo hi ≡ b → ltb (first bad lo hi) hi ≡ false
+      go true p = le-ltb _ _ (le-of-eq (sym (first-past lo hi (omega (arith, ltb-true lo hi p)) none)))
+      go false p = le-ltb _ _ (le-trans (ltb-false lo hi p) (first-low lo hi))

@@ -1,0 +1,8 @@
+-- The laws of specs/. Every later crate cites these.
+pub mod RangeLaws
+pub mod GatherLaws
+pub mod FoldLaws
+pub mod FirstLaws
+pub mod ListLaws
+pub mod DeterminedLaws
+pub mod Rules

@@ -1,0 +1,5 @@
+pub mod Range
+pub mod Gather
+pub mod Fold
+pub mod First
+pub mod Determined
