@@ -67,52 +67,76 @@ impl Refusal {
         ensures { λ r. ⌜ r ≡ record { count = length (values self); first = getD (values self) 0 0; second = getD (values self) 1 0 } ⌝ }
     {
         match self {
-            Refusal::TooBig => Values::none(),
-            Refusal::BadShape => Values::none(),
-            Refusal::BadRow { column, place } => Values::two(column, place),
-            Refusal::EmptySide { side } => Values::one(side),
-            Refusal::BadChunk => Values::none(),
-            Refusal::NoRoom { buffer, need } => Values::two(buffer, need),
-            Refusal::ColumnOutOfRange { column } => Values::one(column),
-            Refusal::ColumnTwice { column } => Values::one(column),
-            Refusal::ColumnUnclaimed { column } => Values::one(column),
-            Refusal::Connected { now, earlier } => Values::two(now, earlier),
-            Refusal::WrongLength { place, need } => Values::two(place, need),
-            Refusal::BadDamping => Values::none(),
-            Refusal::BadPlan { side } => Values::one(side),
-            Refusal::BadSchedule { place } => Values::one(place),
-        }
-    }
-}
-
-impl Values {
-    fn none() -> Values
-        ensures { λ r. ⌜ r ≡ record { count = 0; first = 0; second = 0 } ⌝ }
-    {
-        Values {
-            count: 0,
-            first: 0,
-            second: 0,
-        }
-    }
-
-    fn one(first: usize) -> Values
-        ensures { λ r. ⌜ r ≡ record { count = 1; first = first; second = 0 } ⌝ }
-    {
-        Values {
-            count: 1,
-            first: first,
-            second: 0,
-        }
-    }
-
-    fn two(first: usize, second: usize) -> Values
-        ensures { λ r. ⌜ r ≡ record { count = 2; first = first; second = second } ⌝ }
-    {
-        Values {
-            count: 2,
-            first: first,
-            second: second,
+            Refusal::TooBig => Values {
+                count: 0,
+                first: 0,
+                second: 0,
+            },
+            Refusal::BadShape => Values {
+                count: 0,
+                first: 0,
+                second: 0,
+            },
+            Refusal::BadRow { column, place } => Values {
+                count: 2,
+                first: column,
+                second: place,
+            },
+            Refusal::EmptySide { side } => Values {
+                count: 1,
+                first: side,
+                second: 0,
+            },
+            Refusal::BadChunk => Values {
+                count: 0,
+                first: 0,
+                second: 0,
+            },
+            Refusal::NoRoom { buffer, need } => Values {
+                count: 2,
+                first: buffer,
+                second: need,
+            },
+            Refusal::ColumnOutOfRange { column } => Values {
+                count: 1,
+                first: column,
+                second: 0,
+            },
+            Refusal::ColumnTwice { column } => Values {
+                count: 1,
+                first: column,
+                second: 0,
+            },
+            Refusal::ColumnUnclaimed { column } => Values {
+                count: 1,
+                first: column,
+                second: 0,
+            },
+            Refusal::Connected { now, earlier } => Values {
+                count: 2,
+                first: now,
+                second: earlier,
+            },
+            Refusal::WrongLength { place, need } => Values {
+                count: 2,
+                first: place,
+                second: need,
+            },
+            Refusal::BadDamping => Values {
+                count: 0,
+                first: 0,
+                second: 0,
+            },
+            Refusal::BadPlan { side } => Values {
+                count: 1,
+                first: side,
+                second: 0,
+            },
+            Refusal::BadSchedule { place } => Values {
+                count: 1,
+                first: place,
+                second: 0,
+            },
         }
     }
 }

@@ -1,0 +1,164 @@
+-- What an entry point's checks say: that what it tells is what its definition has, and what a pass gives the work behind it. Assumes nothing.
+use mathlib.Core.Path.{_≡_, refl, sym, ap, _∙_}
+use mathlib.Core.Bool.{Bool, true, false, not}
+use mathlib.Core.List.{List, [], _∷_}
+use Prim.Native.Nat.{ℕ, _+_, _/_, _-_, _<_}
+use native.Mathlib.Omega.{arith}
+use lib.Dec.{eqb, leb}
+use lib.ListN.{length, getD, replicate, length-replicate}
+use lib.Ieee.{Float}
+use borrow.Author.Tests.{eqb-true, not-false, leb-false}
+use Rattle.ground.proofs.FirstLaws.{past-none}
+use Rattle.columns.specs.declared.refusal.Refusal.{Refusal}
+use Rattle.columns.specs.declared.refusal.Answer.{Answer}
+use Rattle.columns.specs.declared.refusal.Answer.the-variants.{Done, Refused}
+use Rattle.columns.specs.Refusals.{Told, tell, done, refused, told, Passes, onPass, orElse}
+use Rattle.columns.specs.Lengths.{lengthBad, wrongLength}
+use Rattle.columns.specs.Columns.{Columns, columnsOf, columnCount, checked, Keeps}
+use Rattle.columns.specs.declared.jacobian_ops.Dot.the-variants.{Sum}
+use Rattle.columns.specs.declared.jacobian_ops.Dot.the-variants as dot
+use Rattle.columns.specs.declared.unchecked.Sign.the-variants.{Plus}
+use Rattle.columns.specs.Sums.{zero₊, sweptOn}
+use Rattle.columns.specs.JacobianOps.{
+  gathered,
+  squared,
+  allTerms,
+  sweptRows,
+  dotOf,
+  noColumn,
+  dotted,
+  dotChecked,
+  columnDot,
+  jtVecChecked,
+  jtVec,
+  diagChecked,
+  diagJtJ,
+  productChecked,
+  jtJVecProduct,
+}
+use Rattle.columns.specs.Unchecked.{HasColumns, RunsThere, Gathers}
+use Rattle.ground.specs.Gather.{listOf}
+use Rattle.columns.proofs.SumLaws.{length-swept}
+use Rattle.columns.proofs.RefusalLaws.{pass-refused, pass-done, passed, both-pass}
+use Rattle.columns.proofs.CheckLaws.{passes-keeps, gathers-of, runs-there}
+
+-- ---- what is told
+
+-- one check after another, each as its definition has it
+pub told-by : (r a b : Answer) (s t : Told) → told r ≡ orElse (told a) (told b) → told a ≡ s → told b ≡ t → told r ≡ orElse s t
+told-by r a b s t e p q = rw (← p, ← q) e
+
+pub told-refused : (a : Answer) (r : Refusal) (t : Told) → told a ≡ t → a ≡ Refused r → refused r ≡ t
+told-refused a r t e q = rw q at e
+
+pub told-done : (a : Answer) (t : Told) → told a ≡ t → a ≡ Done → done ≡ t
+told-done a t e q = rw q at e
+
+-- what a refused call leaves, and one that passed
+pub kept-on : {A : Type 0} (r : Refusal) (t : Told) (x y : A) → refused r ≡ t → y ≡ onPass t x y
+kept-on r t x y e = rw (← e) (sym (pass-refused r x y))
+
+pub given-on : {A : Type 0} (t : Told) (x y : A) → done ≡ t → x ≡ onPass t x y
+given-on t x y e = rw (← e) (sym (pass-done done x y refl))
+
+-- ---- what a pass gives
+
+pub lengths-right : (pairs : List ℕ) → Passes (wrongLength pairs) → (k : ℕ) → k < length pairs / 2 → getD pairs (k + k) 0 ≡ getD pairs (k + k + 1) 0
+unfolding wrongLength lengthBad
+lengths-right pairs e k l =
+    eqb-true _ _ (not-false _ (past-none (lengthBad pairs) 0 (length pairs / 2) (passed _ 10 _ done e .0) k (omega arith) l))
+
+column-is : (n j : ℕ) → Passes (noColumn n j) → j < n
+unfolding noColumn
+column-is n j e = leb-false n j (passed (leb n j) 6 (j ∷ []) done e .0)
+
+module _ (m : Columns) where
+  pub dot-passes : (a b : ℕ) → done ≡ dotChecked m a b → HasColumns m a b
+  dot-passes a b e =
+      let p = both-pass (checked m) _ (ap (λ (t : Told). t .number) (sym e)) in
+      let q = both-pass (noColumn (columnCount m) a) (noColumn (columnCount m) b) (p .1) in
+      let k = passes-keeps m (p .0) in
+      record { left = record { keeps = k; there = column-is _ a (q .0) }; right = record { keeps = k; there = column-is _ b (q .1) } }
+
+  -- the lengths of a call, one by one
+  pub jt-vec-passes : (v out : List Float) → done ≡ jtVecChecked m v out → Keeps m × (length v ≡ m .nrows) × (length out ≡ columnCount m)
+  jt-vec-passes v out e =
+      let p = both-pass (checked m) _ (ap (λ (t : Told). t .number) (sym e)) in
+      let r = lengths-right (length v ∷ m .nrows ∷ length out ∷ columnCount m ∷ []) (p .1) in
+      (passes-keeps m (p .0), r 0 (omega arith), r 1 (omega arith))
+
+  pub diag-passes : (out : List Float) → done ≡ diagChecked m out → Keeps m × (length out ≡ columnCount m)
+  diag-passes out e =
+      let p = both-pass (checked m) _ (ap (λ (t : Told). t .number) (sym e)) in
+      let r = lengths-right (length out ∷ columnCount m ∷ []) (p .1) in
+      (passes-keeps m (p .0), r 0 (omega arith))
+
+  pub product-passes : (v jv out : List Float) → done ≡ productChecked m v jv out → Keeps m × (length v ≡ columnCount m) × (length jv ≡ m .nrows) × (length out ≡ columnCount m)
+  product-passes v jv out e =
+      let p = both-pass (checked m) _ (ap (λ (t : Told). t .number) (sym e)) in
+      let r = lengths-right (length v ∷ columnCount m ∷ length jv ∷ m .nrows ∷ length out ∷ columnCount m ∷ []) (p .1) in
+      (passes-keeps m (p .0), r 0 (omega arith), r 1 (omega arith), r 2 (omega arith))
+
+-- ---- the entry points of src/jacobian_ops.rt: what a refused call leaves, and what one that passed does
+
+module _ (m : Columns) (a b : ℕ) where
+  pub dot-refused : (r : Refusal) → refused r ≡ dotChecked m a b → dotted (dot.Refused r) ≡ columnDot m a b
+  unfolding columnDot
+  dot-refused r e = rw (← e, pass-refused r (dotOf m a b ∷ []) [])
+
+  pub dot-done : (x : Float) → done ≡ dotChecked m a b → x ≡ dotOf m a b → dotted (Sum x) ≡ columnDot m a b
+  unfolding columnDot onPass
+  dot-done x e q = rw (← e, q)
+
+module _ (nrows : ℕ) (ptrs rows : List ℕ) (values : List Float) where
+  abbrev m : Columns
+  m = columnsOf nrows ptrs rows values
+
+  module _ (v out : List Float) where
+    pub jt-vec-refused : (r : Refusal) → refused r ≡ jtVecChecked m v out → record { told = refused r; out = out } ≡ jtVec m v out
+    unfolding jtVec
+    jt-vec-refused r e = rw (← e, pass-refused r (listOf (gathered m v) (columnCount m)) out)
+
+    pub jt-vec-gathers : done ≡ jtVecChecked m v out → Gathers (columnsOf (length v) ptrs rows values) (length out)
+    jt-vec-gathers e = let p = jt-vec-passes m v out e in gathers-of _ nrows ptrs rows values _ (p .0) (p .1) (p .2)
+
+    pub jt-vec-done : (out′ : List Float) → done ≡ jtVecChecked m v out → out′ ≡ listOf (gathered m v) (length out) → record { told = done; out = out′ } ≡ jtVec m v out
+    unfolding jtVec onPass
+    jt-vec-done out′ e q = rw (← e, q, jt-vec-passes m v out e .2)
+
+  module _ (out : List Float) where
+    pub diag-refused : (r : Refusal) → refused r ≡ diagChecked m out → record { told = refused r; out = out } ≡ diagJtJ m out
+    unfolding diagJtJ
+    diag-refused r e = rw (← e, pass-refused r (listOf (squared m) (columnCount m)) out)
+
+    pub diag-runs : done ≡ diagChecked m out → RunsThere ptrs (length values) (length out)
+    diag-runs e = let p = diag-passes m out e in rw (p .1) (runs-there (p .0))
+
+    pub diag-done : (out′ : List Float) → done ≡ diagChecked m out → out′ ≡ listOf (squared m) (length out) → record { told = done; out = out′ } ≡ diagJtJ m out
+    unfolding diagJtJ onPass
+    diag-done out′ e q = rw (← e, q, diag-passes m out e .1)
+
+  module _ (v jv out : List Float) where
+    pub product-refused : (r : Refusal) → refused r ≡ productChecked m v jv out → record { told = refused r; jv = jv; out = out } ≡ jtJVecProduct m v jv out
+    unfolding jtJVecProduct
+    product-refused r e = rw (← e, pass-refused r (sweptRows m v) jv, pass-refused r (listOf (gathered m (sweptRows m v)) (columnCount m)) out)
+
+    -- y is the rows once they are cleared, and once they are swept
+    pub product-sweeps : (y : List Float) → done ≡ productChecked m v jv out → y ≡ replicate (length jv) zero₊ → Gathers (columnsOf (length y) ptrs rows values) (length v)
+    product-sweeps y e q =
+        let p = product-passes m v jv out e in
+        gathers-of _ nrows ptrs rows values _ (p .0) (ap length q ∙ length-replicate (length jv) zero₊ ∙ p .2) (p .1)
+
+    swept-is : (y z : List Float) → done ≡ productChecked m v jv out → y ≡ replicate (length jv) zero₊ → z ≡ sweptOn Plus y (allTerms m v) → z ≡ sweptRows m v
+    swept-is y z e q w = let p = product-passes m v jv out e in w ∙ rw (q, p .2)
+
+    pub product-gathers : (y z : List Float) → done ≡ productChecked m v jv out → y ≡ replicate (length jv) zero₊ → z ≡ sweptOn Plus y (allTerms m v)
+        → Gathers (columnsOf (length z) ptrs rows values) (length out)
+    product-gathers y z e q w =
+        let p = product-passes m v jv out e in
+        gathers-of _ nrows ptrs rows values _ (p .0) (ap length (swept-is y z e q w) ∙ length-swept Plus _ (allTerms m v) ∙ length-replicate nrows zero₊) (p .3)
+
+    pub product-done : (y z out′ : List Float) → done ≡ productChecked m v jv out → y ≡ replicate (length jv) zero₊ → z ≡ sweptOn Plus y (allTerms m v)
+        → out′ ≡ listOf (gathered m z) (length out) → record { told = done; jv = z; out = out′ } ≡ jtJVecProduct m v jv out
+    unfolding jtJVecProduct onPass
+    product-done y z out′ e q w g = rw (← e, ← swept-is y z e q w, g, product-passes m v jv out e .3)

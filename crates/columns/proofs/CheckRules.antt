@@ -1,0 +1,76 @@
+-- What the loops of src/check.rt and the length check show, for `search`. Assumes nothing.
+use mathlib.Core.Path.{_≡_, refl, sym, ap, _∙_}
+use mathlib.Core.Bool.{Bool, true, false, _&&_, _||_, cond}
+use mathlib.Core.List.{List, [], _∷_}
+use Prim.Native.Nat.{ℕ, _+_, _-_, _/_, _≤_, _<_}
+use native.Mathlib.Omega.{arith}
+use native.Mathlib.Nat.{le-trans}
+use lib.Dec.{ltb, leb}
+use lib.ListN.{length, getD}
+use borrow.Author.Tests.{lt-ltb, le-ltb, le-leb, lt-leb, ltb-true, ltb-false, leb-true, leb-false}
+use Rattle.ground.specs.First.{first}
+use Rattle.ground.proofs.FirstLaws.{first-stop, first-low}
+use Rattle.ground.proofs.Rules.{searches}
+use Rattle.columns.specs.Refusals.{Told, tell, done}
+use Rattle.columns.specs.Lengths.{lengthBad, badLength, wrongLength}
+use Rattle.columns.specs.Columns.{columnsOf, columnCount, falls, rowBad, columnBad, badColumn}
+
+-- ---- the pointers
+
+pub falls-at : (ptrs : List ℕ) (j : ℕ) → getD ptrs (j + 1) 0 < getD ptrs j 0 → falls ptrs j ≡ true
+unfolding falls
+falls-at ptrs j h = lt-ltb _ _ h
+
+pub rises-at : (ptrs : List ℕ) (j : ℕ) → getD ptrs j 0 ≤ getD ptrs (j + 1) 0 → falls ptrs j ≡ false
+unfolding falls
+rises-at ptrs j h = le-ltb _ _ h
+
+-- ---- the rows
+
+-- the least row that may stand at place p of a column that begins at `from`
+unfoldable pub leastAt : List ℕ → ℕ → ℕ → ℕ
+leastAt rows from p = cond (ltb from p) (getD rows (p - 1) 0 + 1) 0
+
+pub least-first : (rows : List ℕ) (from : ℕ) → 0 ≡ leastAt rows from from
+unfolding leastAt
+least-first rows from = rw (le-ltb from from (omega arith))
+
+pub least-next : (rows : List ℕ) (from p row : ℕ) → from ≤ p → row ≡ getD rows p 0 → row + 1 ≡ leastAt rows from (p + 1)
+unfolding leastAt
+least-next rows from p row l e = let q : p + 1 - 1 ≡ p = omega arith in rw (lt-ltb from (p + 1) (omega arith), q, e)
+
+module _ (nrows : ℕ) (rows : List ℕ) (from p : ℕ) where
+  row-is : (leb nrows (getD rows p 0) || ltb (getD rows p 0) (leastAt rows from p)) ≡ rowBad nrows rows from p
+  unfolding rowBad leastAt
+  row-is = ap (λ (b : Bool). leb nrows (getD rows p 0) || b) (go (ltb from p) refl)
+    where
+      at : (b : Bool) → leb (getD rows p 0) (getD rows (p - 1) 0) ≡ b → ltb (getD rows p 0) (getD rows (p - 1) 0 + 1) ≡ b
+      at true e = lt-ltb (getD rows p 0) (getD rows (p - 1) 0 + 1) (omega (arith, leb-true (getD rows p 0) (getD rows (p - 1) 0) e))
+      at false e = le-ltb (getD rows p 0) (getD rows (p - 1) 0 + 1) (omega (arith, leb-false (getD rows p 0) (getD rows (p - 1) 0) e))
+
+      go : (b : Bool) → ltb from p ≡ b → ltb (getD rows p 0) (cond b (getD rows (p - 1) 0 + 1) 0) ≡ (b && leb (getD rows p 0) (getD rows (p - 1) 0))
+      go true e = at (leb (getD rows p 0) (getD rows (p - 1) 0)) refl
+      go false e = le-ltb (getD rows p 0) 0 (omega arith)
+
+  -- t is what `row_bad` answered
+  pub row-told : (row least : ℕ) (t b : Bool) → t ≡ (leb nrows row || ltb row least) → row ≡ getD rows p 0 → least ≡ leastAt rows from p → t ≡ b → rowBad nrows rows from p ≡ b
+  row-told row least t b call e q test =
+      sym (ap (λ (r : ℕ). leb nrows r || ltb r least) e ∙ ap (λ (l : ℕ). leb nrows (getD rows p 0) || ltb (getD rows p 0) l) q ∙ row-is) ∙ sym call ∙ test
+
+-- ---- the lengths
+
+pub wrong-at : (pairs : List ℕ) (k n : ℕ) → n ≡ length pairs / 2 → k < n → first (lengthBad pairs) k n ≡ badLength pairs → lengthBad pairs k ≡ true
+    → tell 11 (k ∷ getD pairs (k + k + 1) 0 ∷ []) ≡ wrongLength pairs
+unfolding wrongLength
+wrong-at pairs k n e l inv b =
+    let q : k ≡ badLength pairs = first-stop (lengthBad pairs) l inv b in
+    let h : badLength pairs < length pairs / 2 = rw (q, e) at l in
+    rw (lt-ltb _ _ h, ← q)
+
+pub right-all : (pairs : List ℕ) (k n : ℕ) → n ≡ length pairs / 2 → n ≤ k → first (lengthBad pairs) k n ≡ badLength pairs → done ≡ wrongLength pairs
+unfolding wrongLength
+right-all pairs k n e l inv =
+    let h : length pairs / 2 ≤ badLength pairs = rw (← inv, ← e) (le-trans l (first-low (lengthBad pairs) k n)) in
+    rw (le-ltb _ _ h)
+
+pub ruleset checking = (searches, falls-at, rises-at, least-first, least-next, row-told, wrong-at, right-all)

@@ -1,0 +1,8 @@
+-- The laws of specs/. `pub` are those that the crates above cite.
+pub mod RefusalLaws
+pub mod CheckLaws
+pub mod SumLaws
+pub mod CallLaws
+mod CheckRules
+mod MergeLaws
+mod Rules

@@ -1,0 +1,60 @@
+use Rattle.ground.proofs.FirstLaws.{first-turn}
+use Rattle.columns.proofs.CheckLaws.{column-run, bad-row-at, column-good, bad-row-none}
+use Rattle.columns.specs.Columns.{columnsOf, columnBad, badColumn}
+use Rattle.ground.specs.First.{first}
+use Prim.Native.Nat.{_-_, _≤_}
+use mathlib.Core.Path.{_≡_}
+use Rattle.columns.proofs.CheckRules.{checking}
+use Rattle.columns.proofs.check.bad_row.Statement.{statement}
+use Rattle.columns.proofs.check.bad_row.Tie as tie
+
+abbrev Inv-loop : tie.InvT-loop
+Inv-loop nrows ptrs rows values n j₀ j =
+    (j ≤ n) × (first (columnBad (columnsOf nrows ptrs rows values)) j n ≡ badColumn (columnsOf nrows ptrs rows values))
+
+abbrev μ-loop : tie.MeasureT-loop
+μ-loop nrows ptrs rows values n j₀ j = n - j
+
+column-count-requires : tie.Need-column-count-requires Inv-loop μ-loop
+column-count-requires c κs = search checking
+
+loop-holds : tie.Need-loop-holds Inv-loop μ-loop
+loop-holds c = (search checking, rw (c .column-count .ensures))
+
+end-place-requires : tie.Need-end-place-requires Inv-loop μ-loop
+end-place-requires c κs = search checking
+
+first-place-requires : tie.Need-first-place-requires Inv-loop μ-loop
+first-place-requires c κs = search checking
+
+bad-place-requires : tie.Need-bad-place-requires Inv-loop μ-loop
+bad-place-requires c κs =
+    let l = c .before .before .before in
+    rw (c .first-place .ensures, c .before .end-place .ensures) (column-run (l .before .before .before .before .before .pre) (l .loop .j) (rw (l .before .column-count .ensures) at (c .before .before .loop-test .taken)))
+
+returns : tie.Need-returns Inv-loop μ-loop
+returns c =
+    let l = c .before .before .before .before .before in
+    bad-row-at _ (l .loop .j) _ (l .before .column-count .ensures) _ _ _ (c .before .before .before .before .loop-test .taken) (l .loop .inv .1) (c .before .before .first-place .ensures) (c .before .before .before .end-place .ensures) (c .before .bad-place .ensures) (c .if1 .taken)
+
+add-j : tie.Need-add-j Inv-loop μ-loop
+add-j c = search checking
+
+loop-less : tie.Need-loop-less Inv-loop μ-loop
+loop-less c = search checking
+
+loop-again : tie.Need-loop-again Inv-loop μ-loop
+loop-again c =
+    let l = c .before .before .before .before .before in (
+      search checking,
+      first-turn _ (c .before .before .before .before .loop-test .taken) (l .loop .inv .1)
+          (column-good _ (l .loop .j) _ (l .before .column-count .ensures) _ _ _ (c .before .before .first-place .ensures) (c .before .before .before .end-place .ensures) (c .before .bad-place .ensures) (c .if1 .left)),
+    )
+
+returns-2 : tie.Need-returns-2 Inv-loop μ-loop
+returns-2 c =
+    let l = c .before in
+    bad-row-none _ (l .loop .j) _ (l .before .column-count .ensures) (c .loop-test .left) (l .loop .inv .1)
+
+pub bad-row-spec : {M : Type 1} → statement M
+bad-row-spec = tie.close (tie.spec Inv-loop μ-loop column-count-requires loop-holds end-place-requires first-place-requires bad-place-requires returns add-j loop-less loop-again returns-2)
