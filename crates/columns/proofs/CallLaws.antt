@@ -2,18 +2,19 @@
 use mathlib.Core.Path.{_≡_, refl, sym, ap, _∙_}
 use mathlib.Core.Bool.{Bool, true, false, not}
 use mathlib.Core.List.{List, [], _∷_}
-use Prim.Native.Nat.{ℕ, _+_, _/_, _-_, _<_}
+use Prim.Native.Nat.{ℕ, _+_, _/_, _-_, _≤_, _<_}
+use native.Mathlib.Nat.{le-antisymm}
 use native.Mathlib.Omega.{arith}
 use lib.Dec.{eqb, leb}
 use lib.ListN.{length, getD, replicate, length-replicate}
 use lib.Ieee.{Float}
-use borrow.Author.Tests.{eqb-true, not-false, leb-false}
+use borrow.Author.Tests.{ltb-false, leb-false}
 use Rattle.ground.proofs.FirstLaws.{past-none}
 use Rattle.columns.specs.declared.refusal.Refusal.{Refusal}
 use Rattle.columns.specs.declared.refusal.Answer.{Answer}
 use Rattle.columns.specs.declared.refusal.Answer.the-variants.{Done, Refused}
 use Rattle.columns.specs.Refusals.{Told, tell, done, refused, told, Passes, onPass, orElse}
-use Rattle.columns.specs.Lengths.{lengthBad, wrongLength}
+use Rattle.columns.specs.Lengths.{lengthOf, needOf, pairBad, pairsTold, noRoom, wrongLength}
 use Rattle.columns.specs.Columns.{Columns, columnsOf, columnCount, checked, Keeps}
 use Rattle.columns.specs.declared.jacobian_ops.Dot.the-variants.{Sum}
 use Rattle.columns.specs.declared.jacobian_ops.Dot.the-variants as dot
@@ -40,7 +41,7 @@ use Rattle.columns.specs.Unchecked.{HasColumns, RunsThere, Gathers}
 use Rattle.ground.specs.Gather.{listOf}
 use Rattle.columns.proofs.SumLaws.{length-swept}
 use Rattle.columns.proofs.RefusalLaws.{pass-refused, pass-done, passed, both-pass}
-use Rattle.columns.proofs.CheckLaws.{passes-keeps, gathers-of, runs-there}
+use Rattle.columns.proofs.CheckLaws.{or-false, passes-keeps, gathers-of, runs-there}
 
 -- ---- what is told
 
@@ -63,10 +64,16 @@ given-on t x y e = rw (← e) (sym (pass-done done x y refl))
 
 -- ---- what a pass gives
 
-pub lengths-right : (pairs : List ℕ) → Passes (wrongLength pairs) → (k : ℕ) → k < length pairs / 2 → getD pairs (k + k) 0 ≡ getD pairs (k + k + 1) 0
-unfolding wrongLength lengthBad
+-- each length is its need; each buffer has room for its own
+pub lengths-right : (pairs : List ℕ) → Passes (wrongLength pairs) → (k : ℕ) → k < length pairs / 2 → lengthOf pairs k ≡ needOf pairs k
+unfolding pairsTold pairBad
 lengths-right pairs e k l =
-    eqb-true _ _ (not-false _ (past-none (lengthBad pairs) 0 (length pairs / 2) (passed _ 10 _ done e .0) k (omega arith) l))
+    let p = or-false _ _ (past-none (pairBad true pairs) 0 (length pairs / 2) (passed _ 10 _ done e .0) k (omega arith) l) in
+    le-antisymm (ltb-false _ _ (p .1)) (ltb-false _ _ (p .0))
+
+pub room-right : (pairs : List ℕ) → Passes (noRoom pairs) → (k : ℕ) → k < length pairs / 2 → needOf pairs k ≤ lengthOf pairs k
+unfolding pairsTold pairBad
+room-right pairs e k l = ltb-false _ _ (or-false _ _ (past-none (pairBad false pairs) 0 (length pairs / 2) (passed _ 5 _ done e .0) k (omega arith) l) .0)
 
 column-is : (n j : ℕ) → Passes (noColumn n j) → j < n
 unfolding noColumn

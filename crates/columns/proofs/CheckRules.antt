@@ -12,7 +12,7 @@ use Rattle.ground.specs.First.{first}
 use Rattle.ground.proofs.FirstLaws.{first-stop, first-low}
 use Rattle.ground.proofs.Rules.{searches}
 use Rattle.columns.specs.Refusals.{Told, tell, done}
-use Rattle.columns.specs.Lengths.{lengthBad, badLength, wrongLength}
+use Rattle.columns.specs.Lengths.{lengthOf, needOf, pairBad, badPair, pairsTold}
 use Rattle.columns.specs.Columns.{columnsOf, columnCount, falls, rowBad, columnBad, badColumn}
 
 -- ---- the pointers
@@ -57,20 +57,28 @@ module _ (nrows : ℕ) (rows : List ℕ) (from p : ℕ) where
   row-told row least t b call e q test =
       sym (ap (λ (r : ℕ). leb nrows r || ltb r least) e ∙ ap (λ (l : ℕ). leb nrows (getD rows p 0) || ltb (getD rows p 0) l) q ∙ row-is) ∙ sym call ∙ test
 
--- ---- the lengths
+-- ---- what is lent
 
-pub wrong-at : (pairs : List ℕ) (k n : ℕ) → n ≡ length pairs / 2 → k < n → first (lengthBad pairs) k n ≡ badLength pairs → lengthBad pairs k ≡ true
-    → tell 11 (k ∷ getD pairs (k + k + 1) 0 ∷ []) ≡ wrongLength pairs
-unfolding wrongLength
-wrong-at pairs k n e l inv b =
-    let q : k ≡ badLength pairs = first-stop (lengthBad pairs) l inv b in
-    let h : badLength pairs < length pairs / 2 = rw (q, e) at l in
-    rw (lt-ltb _ _ h, ← q)
+module _ (pairs : List ℕ) (k : ℕ) where
+  pub pair-short : (exact : Bool) → lengthOf pairs k < needOf pairs k → true ≡ pairBad exact pairs k
+  unfolding pairBad
+  pair-short exact h = rw (lt-ltb _ _ h)
 
-pub right-all : (pairs : List ℕ) (k n : ℕ) → n ≡ length pairs / 2 → n ≤ k → first (lengthBad pairs) k n ≡ badLength pairs → done ≡ wrongLength pairs
-unfolding wrongLength
-right-all pairs k n e l inv =
-    let h : length pairs / 2 ≤ badLength pairs = rw (← inv, ← e) (le-trans l (first-low (lengthBad pairs) k n)) in
-    rw (le-ltb _ _ h)
+  pub pair-long : (exact : Bool) → needOf pairs k ≤ lengthOf pairs k → exact ≡ true → ltb (needOf pairs k) (lengthOf pairs k) ≡ pairBad exact pairs k
+  unfolding pairBad
+  pair-long exact h e = rw (le-ltb _ _ h, e)
 
-pub ruleset checking = (searches, falls-at, rises-at, least-first, least-next, row-told, wrong-at, right-all)
+  pub pair-fine : (exact : Bool) → needOf pairs k ≤ lengthOf pairs k → exact ≡ false → false ≡ pairBad exact pairs k
+  unfolding pairBad
+  pair-fine exact h e = rw (le-ltb _ _ h, e)
+
+module _ (n k : ℕ) (exact : Bool) (pairs : List ℕ) (e : k ≡ badPair exact pairs) where
+  pub pair-told : k < length pairs / 2 → tell n (k ∷ getD pairs (k + k + 1) 0 ∷ []) ≡ pairsTold n exact pairs
+  unfolding pairsTold
+  pair-told l = rw (← e, lt-ltb k (length pairs / 2) l)
+
+  pub pairs-done : length pairs / 2 ≤ k → done ≡ pairsTold n exact pairs
+  unfolding pairsTold
+  pairs-done l = rw (← e, le-ltb k (length pairs / 2) l)
+
+pub ruleset checking = (searches, falls-at, rises-at, least-first, least-next, row-told, pair-short, pair-long, pair-fine, pair-told, pairs-done)

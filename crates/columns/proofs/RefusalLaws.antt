@@ -3,11 +3,11 @@
 use mathlib.Core.Path.{_≡_, refl, ap, sym, _∙_}
 use mathlib.Core.Bool.{Bool, true, false, cond}
 use mathlib.Core.List.{List, [], _∷_}
-use Prim.Native.Nat.{ℕ, zero, suc}
+use Prim.Native.Nat.{ℕ, suc, _≤_, _<_}
 use native.Mathlib.Omega.{arith}
-use lib.Dec.{eqb}
+use lib.Dec.{eqb, leb}
 use lib.ListN.{getD}
-use borrow.Author.Tests.{eq-eqb, ne-eqb, eqb-true, eqb-false}
+use borrow.Author.Tests.{eq-eqb, eqb-true, eqb-false, le-leb, lt-leb}
 use Rattle.columns.specs.declared.refusal.Refusal.{Refusal}
 use Rattle.columns.specs.declared.refusal.Refusal.the-variants.{
   TooBig,
@@ -27,7 +27,7 @@ use Rattle.columns.specs.declared.refusal.Refusal.the-variants.{
 }
 use Rattle.columns.specs.declared.refusal.Answer.{Answer}
 use Rattle.columns.specs.declared.refusal.Answer.the-variants.{Done, Refused}
-use Rattle.columns.specs.Refusals.{number, values, Told, tell, done, refused, told, Passes, onPass, orElse}
+use Rattle.columns.specs.Refusals.{number, values, Told, tell, done, refused, told, Passes, onPass, orElse, sooner}
 
 -- ---- the refusal of a number and values
 
@@ -127,3 +127,33 @@ second-told a b e = rw e
 
 pub first-told : (a b : Answer) (r : Refusal) → a ≡ Refused r → told a ≡ orElse (told a) (told b)
 first-told a b r e = rw e (sym (pass-refused r _ _))
+
+-- ---- `sooner`
+
+module _ (a b : Answer) where
+  pub sooner-second : a ≡ Done → told b ≡ sooner (told a) (told b)
+  unfolding onPass
+  sooner-second e = rw e
+
+  pub sooner-first : (r : Refusal) → a ≡ Refused r → b ≡ Done → refused r ≡ sooner (told a) (told b)
+  unfolding onPass
+  sooner-first r e q = rw (e, q, number-some r)
+
+  pub sooner-lower : (r s : Refusal) (n k : ℕ) → a ≡ Refused r → b ≡ Refused s → n ≡ number r → k ≡ number s → n ≤ k → refused r ≡ sooner (told a) (told b)
+  unfolding onPass
+  sooner-lower r s n k e q p t l = rw (e, q, number-some r, number-some s, le-leb (number r) (number s) (rw (p, t) at l))
+
+  pub sooner-higher : (r s : Refusal) (n k : ℕ) → a ≡ Refused r → b ≡ Refused s → n ≡ number r → k ≡ number s → k < n → refused s ≡ sooner (told a) (told b)
+  unfolding onPass
+  sooner-higher r s n k e q p t l = rw (e, q, number-some r, number-some s, lt-leb (number r) (number s) (rw (p, t) at l))
+
+-- both of two checks pass where the sooner refusal is none
+pub sooner-pass : (a b : Told) → Passes (sooner a b) → Passes a × Passes b
+unfolding onPass
+sooner-pass a b e = go (eqb (a .number) 0) refl (eqb (b .number) 0) refl (leb (a .number) (b .number)) e
+  where
+    go : (d : Bool) → eqb (a .number) 0 ≡ d → (f : Bool) → eqb (b .number) 0 ≡ f → (g : Bool) → Passes (cond d b (cond f a (cond g a b))) → Passes a × Passes b
+    go true p f q g e = (eqb-true _ _ p, e)
+    go false p true q g e = absurd (eqb-false _ _ p e)
+    go false p false q true e = absurd (eqb-false _ _ p e)
+    go false p false q false e = absurd (eqb-false _ _ q e)

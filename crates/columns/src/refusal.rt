@@ -2,8 +2,8 @@
 // `values` look at the cases, and every other function passes a refusal on whole.
 ghost use mathlib.Core.Path.{_≡_};
 ghost use lib.ListN.{length, getD};
-ghost use Rattle.columns.specs.Refusals.{number, values, told, orElse};
-ghost use Rattle.columns.specs.Lengths.{lengthBad, wrongLength, PairThere};
+ghost use Rattle.columns.specs.Refusals.{number, values, told, orElse, sooner};
+ghost use Rattle.columns.specs.Lengths.{pairBad, badPair, noRoom, wrongLength, PairThere};
 
 // Why a call was refused: document 01's numbers 1 to 14, in its order.
 pub enum Refusal {
@@ -157,27 +157,78 @@ pub fn or_else(a: Answer, b: Answer) -> Answer
     }
 }
 
-// Whether pair k's length is another than its need.
-fn length_bad(pairs: &[usize], k: usize) -> bool
-    requires { ⌜ PairThere (length (now pairs)) k ⌝ }
-    ensures { λ r. ⌜ r ≡ lengthBad (now (pairs .entry)) k ⌝ }
+// Two checks side by side: the refusal with the lower number answers, since document 01's order is that of the numbers.
+pub fn sooner(a: Answer, b: Answer) -> Answer
+    ensures { λ r. ⌜ told r ≡ sooner (told a) (told b) ⌝ }
 {
-    pairs[k + k] != pairs[k + k + 1]
+    match a {
+        Answer::Done => b,
+        Answer::Refused(r) => match b {
+            Answer::Done => a,
+            Answer::Refused(s) => {
+                if r.number() <= s.number() {
+                    return a;
+                }
+                b
+            }
+        },
+    }
 }
 
-// The first of a call's lengths that is not its need. The lengths come as pairs, length then need, in document 01's order, so that a
-// call's list is written once and no place number is.
-pub fn wrong_length(pairs: &[usize]) -> Answer
-    ensures { λ r. ⌜ told r ≡ wrongLength (now (pairs .entry)) ⌝ }
+// Whether pair k falls short of its need, or where it has to be exact passes it.
+fn pair_bad(exact: bool, pairs: &[usize], k: usize) -> bool
+    requires { ⌜ PairThere (length (now pairs)) k ⌝ }
+    ensures { λ r. ⌜ r ≡ pairBad exact (now (pairs .entry)) k ⌝ }
+{
+    let length = pairs[k + k];
+    let need = pairs[k + k + 1];
+    if length < need {
+        return true;
+    }
+    if exact {
+        return need < length;
+    }
+    false
+}
+
+// The first bad pair, or how many whole pairs there are.
+fn bad_pair(exact: bool, pairs: &[usize]) -> usize
+    ensures { λ r. ⌜ r ≡ badPair exact (now (pairs .entry)) ⌝ }
 {
     let n = pairs.len() / 2;
     for k in 0..n {
-        if length_bad(pairs, k) {
-            return Answer::Refused(Refusal::WrongLength {
-                place: k,
-                need: pairs[k + k + 1],
-            });
+        if pair_bad(exact, pairs, k) {
+            return k;
         }
+    }
+    n
+}
+
+// The first of a call's buffers that is shorter than its need. What is lent comes as pairs, length then need, in document 01's order, so
+// that a call's list is written once and no place number is.
+pub fn no_room(pairs: &[usize]) -> Answer
+    ensures { λ r. ⌜ told r ≡ noRoom (now (pairs .entry)) ⌝ }
+{
+    let k = bad_pair(false, pairs);
+    if k < pairs.len() / 2 {
+        return Answer::Refused(Refusal::NoRoom {
+            buffer: k,
+            need: pairs[k + k + 1],
+        });
+    }
+    Answer::Done
+}
+
+// The first of a call's lengths that is not its need, likewise.
+pub fn wrong_length(pairs: &[usize]) -> Answer
+    ensures { λ r. ⌜ told r ≡ wrongLength (now (pairs .entry)) ⌝ }
+{
+    let k = bad_pair(true, pairs);
+    if k < pairs.len() / 2 {
+        return Answer::Refused(Refusal::WrongLength {
+            place: k,
+            need: pairs[k + k + 1],
+        });
     }
     Answer::Done
 }
