@@ -1,19 +1,19 @@
 -- What an entry point's checks say: that what it tells is what its definition has, and what a pass gives the work behind it. Assumes nothing.
 use mathlib.Core.Path.{_≡_, refl, sym, ap, _∙_}
-use mathlib.Core.Bool.{Bool, true, false, not}
+use mathlib.Core.Bool.{true, false}
 use mathlib.Core.List.{List, [], _∷_}
-use Prim.Native.Nat.{ℕ, _+_, _/_, _-_, _≤_, _<_}
+use Prim.Native.Nat.{ℕ, _/_, _-_, _≤_, _<_}
 use native.Mathlib.Nat.{le-antisymm}
 use native.Mathlib.Omega.{arith}
-use lib.Dec.{eqb, leb}
-use lib.ListN.{length, getD, replicate, length-replicate}
+use lib.Dec.{leb}
+use lib.ListN.{length, replicate, length-replicate}
 use lib.Ieee.{Float}
 use borrow.Author.Tests.{ltb-false, leb-false}
 use Rattle.ground.proofs.FirstLaws.{past-none}
 use Rattle.columns.specs.declared.refusal.Refusal.{Refusal}
 use Rattle.columns.specs.declared.refusal.Answer.{Answer}
 use Rattle.columns.specs.declared.refusal.Answer.the-variants.{Done, Refused}
-use Rattle.columns.specs.Refusals.{Told, tell, done, refused, told, Passes, onPass, orElse}
+use Rattle.columns.specs.Refusals.{Told, done, refused, told, Passes, onPass, orElse}
 use Rattle.columns.specs.Lengths.{lengthOf, needOf, pairBad, pairsTold, noRoom, wrongLength}
 use Rattle.columns.specs.Columns.{Columns, columnsOf, columnCount, checked, Keeps}
 use Rattle.columns.specs.declared.jacobian_ops.Dot.the-variants.{Sum}

@@ -1,7 +1,7 @@
 -- What a passed check of columns is worth, and that columns which keep the rules pass. The facts that the layers above need of good columns,
 -- and what gives the functions of src/unchecked.rt their `requires`, are at the end. Assumes nothing.
-use mathlib.Core.Path.{_≡_, refl, sym, ap, _∙_, subst}
-use mathlib.Core.Bool.{Bool, true, false, not, _&&_, _||_, cond}
+use mathlib.Core.Path.{_≡_, refl, ap, _∙_, subst}
+use mathlib.Core.Bool.{Bool, true, false, not, _&&_, _||_}
 use mathlib.Core.List.{List, [], _∷_}
 use Prim.Native.Nat.{ℕ, zero, suc, _+_, _-_, _≤_, _<_}
 use native.Mathlib.Nat.{le-trans, le-of-eq}
@@ -9,9 +9,9 @@ use native.Mathlib.Omega.{arith}
 use lib.Dec.{ltb, leb, eqb}
 use lib.ListN.{length, getD}
 use borrow.Author.Tests.{lt-ltb, le-ltb, lt-leb, eq-eqb, ne-eqb, ltb-true, ltb-false, leb-false, eqb-true, eqb-false, not-false}
-use Rattle.ground.specs.First.{first, None}
+use Rattle.ground.specs.First.{first}
 use Rattle.ground.proofs.FirstLaws.{past-none, none-past, first-stop, first-low}
-use Rattle.columns.specs.Refusals.{Told, tell, done, Passes}
+use Rattle.columns.specs.Refusals.{tell, done, Passes}
 use Rattle.columns.specs.Columns.{
   Columns,
   columnsOf,
@@ -36,7 +36,7 @@ use Rattle.columns.specs.Columns.{
   Sorted,
   Keeps,
 }
-use Rattle.columns.specs.Unchecked.{ColumnThere, RunThere, RunsThere, EntryFits, EntriesFit, HasColumn, HasColumns, Gathers}
+use Rattle.columns.specs.Unchecked.{ColumnThere, RunThere, RunsThere, EntriesFit, HasColumn, Gathers}
 use Rattle.columns.proofs.RefusalLaws.{passed}
 
 -- ---- tests

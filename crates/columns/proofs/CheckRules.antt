@@ -4,16 +4,13 @@ use mathlib.Core.Bool.{Bool, true, false, _&&_, _||_, cond}
 use mathlib.Core.List.{List, [], _∷_}
 use Prim.Native.Nat.{ℕ, _+_, _-_, _/_, _≤_, _<_}
 use native.Mathlib.Omega.{arith}
-use native.Mathlib.Nat.{le-trans}
 use lib.Dec.{ltb, leb}
 use lib.ListN.{length, getD}
-use borrow.Author.Tests.{lt-ltb, le-ltb, le-leb, lt-leb, ltb-true, ltb-false, leb-true, leb-false}
-use Rattle.ground.specs.First.{first}
-use Rattle.ground.proofs.FirstLaws.{first-stop, first-low}
+use borrow.Author.Tests.{lt-ltb, le-ltb, leb-true, leb-false}
 use Rattle.ground.proofs.Rules.{searches}
-use Rattle.columns.specs.Refusals.{Told, tell, done}
+use Rattle.columns.specs.Refusals.{tell, done}
 use Rattle.columns.specs.Lengths.{lengthOf, needOf, pairBad, badPair, pairsTold}
-use Rattle.columns.specs.Columns.{columnsOf, columnCount, falls, rowBad, columnBad, badColumn}
+use Rattle.columns.specs.Columns.{falls, rowBad}
 
 -- ---- the pointers
 

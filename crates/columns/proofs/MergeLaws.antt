@@ -2,7 +2,7 @@
 -- the two next entries on; each step of the merge leaves the sum of that, from the sum so far, as it was. Assumes nothing.
 use mathlib.Core.Path.{_≡_, refl, sym, ap, _∙_}
 use mathlib.Core.Bool.{Bool, true, false, _&&_, cond}
-use mathlib.Core.List.{List, [], _∷_, _++_, append-nil}
+use mathlib.Core.List.{List, [], _∷_, _++_}
 use Prim.Native.Nat.{ℕ, _+_, _-_, _≤_, _<_}
 use native.Mathlib.Nat.{le-antisymm}
 use native.Mathlib.Omega.{arith}
@@ -13,7 +13,7 @@ use borrow.Author.Tests.{eq-eqb, eqb-true, eqb-false, ne-eqb, ltb-true, ltb-fals
 use Rattle.ground.specs.Gather.{gather}
 use Rattle.ground.specs.Fold.{folded}
 use Rattle.ground.proofs.GatherLaws.{gather-none, gather-first, gather-same, gather-empty, gather-split}
-use Rattle.ground.proofs.FoldLaws.{folded-none, folded-append, folded-one}
+use Rattle.ground.proofs.FoldLaws.{folded-none}
 use Rattle.columns.specs.declared.unchecked.Merge.{Merge}
 use Rattle.columns.specs.Columns.{Columns, firstPlace, endPlace}
 use Rattle.columns.specs.Sums.{zero₊, Term, term, addTerm, sumFrom}

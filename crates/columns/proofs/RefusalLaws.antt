@@ -1,8 +1,8 @@
 -- What the numbers of refusals are worth: none is 0, so a call that tells 0 was not refused; and an answer can be had back from what it tells,
 -- so a promise about what a call tells determines its answer. Assumes nothing.
-use mathlib.Core.Path.{_≡_, refl, ap, sym, _∙_}
+use mathlib.Core.Path.{_≡_, refl, ap, sym}
 use mathlib.Core.Bool.{Bool, true, false, cond}
-use mathlib.Core.List.{List, [], _∷_}
+use mathlib.Core.List.{List}
 use Prim.Native.Nat.{ℕ, suc, _≤_, _<_}
 use native.Mathlib.Omega.{arith}
 use lib.Dec.{eqb, leb}
@@ -27,7 +27,7 @@ use Rattle.columns.specs.declared.refusal.Refusal.the-variants.{
 }
 use Rattle.columns.specs.declared.refusal.Answer.{Answer}
 use Rattle.columns.specs.declared.refusal.Answer.the-variants.{Done, Refused}
-use Rattle.columns.specs.Refusals.{number, values, Told, tell, done, refused, told, Passes, onPass, orElse, sooner}
+use Rattle.columns.specs.Refusals.{number, values, Told, tell, refused, told, Passes, onPass, orElse, sooner}
 
 -- ---- the refusal of a number and values
 

@@ -1,13 +1,12 @@
 -- What the code's steps show of the definitions of specs/: a lemma for each way that a function returns, over plain variables, whose premises
 -- are what its calls and tests give. `search rules` then closes the needs. Assumes nothing.
-use mathlib.Core.Path.{_≡_, refl, sym, _∙_}
+use mathlib.Core.Path.{_≡_, refl, sym}
 use mathlib.Core.Bool.{true, false}
 use mathlib.Core.List.{List}
 use Prim.Native.Nat.{ℕ, _+_, _≤_, _<_}
 use lib.ListN.{length, getD, set}
 use lib.Ieee.{Float, nan, binary64, add, sub, mul, eq}
 use Rattle.ground.specs.Gather.{gather}
-use Rattle.ground.specs.Fold.{folded}
 use Rattle.ground.proofs.FoldLaws.{folded-none, folded-one}
 use Rattle.ground.proofs.Rules.{loops}
 use Rattle.columns.specs.declared.unchecked.Sign.{Sign}

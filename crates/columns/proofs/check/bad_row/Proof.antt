@@ -1,10 +1,11 @@
-use Rattle.ground.proofs.FirstLaws.{first-turn}
-use Rattle.columns.proofs.CheckLaws.{column-run, bad-row-at, column-good, bad-row-none}
-use Rattle.columns.specs.Columns.{columnsOf, columnBad, badColumn}
-use Rattle.ground.specs.First.{first}
+-- `columns::check::bad_row` meets its contract. Assumes nothing.
 use Prim.Native.Nat.{_-_, _≤_}
 use mathlib.Core.Path.{_≡_}
+use Rattle.columns.specs.Columns.{columnsOf, columnBad, badColumn}
+use Rattle.ground.specs.First.{first}
+use Rattle.columns.proofs.CheckLaws.{column-run, bad-row-at, column-good, bad-row-none}
 use Rattle.columns.proofs.CheckRules.{checking}
+use Rattle.ground.proofs.FirstLaws.{first-turn}
 use Rattle.columns.proofs.check.bad_row.Statement.{statement}
 use Rattle.columns.proofs.check.bad_row.Tie as tie
 
@@ -15,17 +16,8 @@ Inv-loop nrows ptrs rows values n j₀ j =
 abbrev μ-loop : tie.MeasureT-loop
 μ-loop nrows ptrs rows values n j₀ j = n - j
 
-column-count-requires : tie.Need-column-count-requires Inv-loop μ-loop
-column-count-requires c κs = search checking
-
 loop-holds : tie.Need-loop-holds Inv-loop μ-loop
 loop-holds c = (search checking, rw (c .column-count .ensures))
-
-end-place-requires : tie.Need-end-place-requires Inv-loop μ-loop
-end-place-requires c κs = search checking
-
-first-place-requires : tie.Need-first-place-requires Inv-loop μ-loop
-first-place-requires c κs = search checking
 
 bad-place-requires : tie.Need-bad-place-requires Inv-loop μ-loop
 bad-place-requires c κs =
@@ -36,12 +28,6 @@ returns : tie.Need-returns Inv-loop μ-loop
 returns c =
     let l = c .before .before .before .before .before in
     bad-row-at _ (l .loop .j) _ (l .before .column-count .ensures) _ _ _ (c .before .before .before .before .loop-test .taken) (l .loop .inv .1) (c .before .before .first-place .ensures) (c .before .before .before .end-place .ensures) (c .before .bad-place .ensures) (c .if1 .taken)
-
-add-j : tie.Need-add-j Inv-loop μ-loop
-add-j c = search checking
-
-loop-less : tie.Need-loop-less Inv-loop μ-loop
-loop-less c = search checking
 
 loop-again : tie.Need-loop-again Inv-loop μ-loop
 loop-again c =
@@ -57,4 +43,7 @@ returns-2 c =
     bad-row-none _ (l .loop .j) _ (l .before .column-count .ensures) (c .loop-test .left) (l .loop .inv .1)
 
 pub bad-row-spec : {M : Type 1} → statement M
-bad-row-spec = tie.close (tie.spec Inv-loop μ-loop column-count-requires loop-holds end-place-requires first-place-requires bad-place-requires returns add-j loop-less loop-again returns-2)
+bad-row-spec =
+    tie.close (tie.spec
+    Inv-loop μ-loop (λ c κs. search checking) loop-holds (λ c κs. search checking) (λ c κs. search checking) bad-place-requires
+    returns (λ c. search checking) (λ c. search checking) loop-again returns-2)

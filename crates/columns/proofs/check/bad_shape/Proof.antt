@@ -1,5 +1,6 @@
-use Rattle.columns.specs.Columns.{badShape}
+-- `columns::check::bad_shape` meets its contract. Assumes nothing.
 use borrow.Author.Tests.{lt-ltb, le-ltb, eq-eqb, ne-eqb}
+use Rattle.columns.specs.Columns.{badShape}
 use Rattle.columns.proofs.Rules.{rules}
 use Rattle.columns.proofs.check.bad_shape.Statement.{statement}
 use Rattle.columns.proofs.check.bad_shape.Tie as tie
@@ -8,18 +9,9 @@ returns : tie.Need-returns
 unfolding badShape
 returns c = simp (eq-eqb _ _ (c .if1 .taken))
 
-shared-slice-read-if2 : tie.Need-shared-slice-read-if2
-shared-slice-read-if2 c = search rules
-
 returns-2 : tie.Need-returns-2
 unfolding badShape
 returns-2 c = simp (ne-eqb _ _ (c .before .before .if1 .left), ne-eqb _ _ (c .if2 .taken))
-
-sub-last : tie.Need-sub-last
-sub-last c = search rules
-
-first-fall-requires : tie.Need-first-fall-requires
-first-fall-requires c κs = search rules
 
 returns-3 : tie.Need-returns-3
 unfolding badShape
@@ -27,15 +19,6 @@ returns-3 c =
     let e = c .before .before in
     let h = rw (c .before .first-fall .ensures) at (c .if3 .taken) in
     simp (ne-eqb _ _ (e .before .before .if1 .left), eq-eqb _ _ (e .if2 .left), lt-ltb _ _ h)
-
-mul-wide : tie.Need-mul-wide
-mul-wide c = search rules
-
-shared-slice-read-wide : tie.Need-shared-slice-read-wide
-shared-slice-read-wide c = search rules
-
-wide-requires : tie.Need-wide-requires
-wide-requires c κs = search rules
 
 returns-4 : tie.Need-returns-4
 unfolding badShape
@@ -56,4 +39,7 @@ returns-5 c =
     simp (ne-eqb _ _ (e .before .before .if1 .left), eq-eqb _ _ (e .if2 .left), le-ltb _ _ h, eq-eqb _ _ g)
 
 pub bad-shape-spec : {M : Type 1} → statement M
-bad-shape-spec = tie.close (tie.spec returns shared-slice-read-if2 returns-2 sub-last first-fall-requires returns-3 mul-wide shared-slice-read-wide wide-requires returns-4 returns-5)
+bad-shape-spec =
+    tie.close (tie.spec
+    returns (λ c. search rules) returns-2 (λ c. search rules) (λ c κs. search rules) returns-3 (λ c. search rules) (λ c. search rules)
+    (λ c κs. search rules) returns-4 returns-5)

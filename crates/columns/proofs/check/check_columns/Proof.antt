@@ -1,23 +1,15 @@
-use Rattle.columns.proofs.CheckLaws.{shape-of}
-use Rattle.columns.specs.Columns.{checked}
+-- `columns::check::check_columns` meets its contract. Assumes nothing.
 use mathlib.Core.Path.{sym, _∙_}
+use Rattle.columns.specs.Columns.{checked}
+use Rattle.columns.proofs.CheckLaws.{shape-of}
 use Rattle.columns.proofs.Rules.{rules}
 use Rattle.columns.proofs.check.check_columns.Statement.{statement}
 use Rattle.columns.proofs.check.check_columns.Tie as tie
-
-column-count-requires : tie.Need-column-count-requires
-column-count-requires c κs = search rules
-
-too-big-requires : tie.Need-too-big-requires
-too-big-requires c κs = search rules
 
 returns : tie.Need-returns
 unfolding checked
 returns c =
     rw (rw (c .before .before .column-count .ensures) at (sym (c .before .too-big .ensures) ∙ c .if1 .taken))
-
-bad-shape-requires : tie.Need-bad-shape-requires
-bad-shape-requires c κs = search rules
 
 returns-2 : tie.Need-returns-2
 unfolding checked
@@ -36,4 +28,6 @@ returns-3 c =
     rw (rw (b .before .before .column-count .ensures) at (sym (b .before .too-big .ensures) ∙ b .if1 .left), sym (s .before .bad-shape .ensures) ∙ s .if2 .left) (c .bad-row .ensures)
 
 pub check-columns-spec : {M : Type 1} → statement M
-check-columns-spec = tie.close (tie.spec column-count-requires too-big-requires returns bad-shape-requires returns-2 bad-row-requires returns-3)
+check-columns-spec =
+    tie.close (tie.spec
+    (λ c κs. search rules) (λ c κs. search rules) returns (λ c κs. search rules) returns-2 bad-row-requires returns-3)

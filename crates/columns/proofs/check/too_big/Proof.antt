@@ -1,3 +1,4 @@
+-- `columns::check::too_big` meets its contract. Assumes nothing.
 use borrow.Author.Tests.{lt-ltb, le-ltb}
 use Rattle.columns.specs.Columns.{tooBig}
 use Rattle.columns.proofs.Rules.{rules}
@@ -17,4 +18,6 @@ unfolding tooBig
 returns-3 c = simp (le-ltb _ _ (c .before .if1 .left), le-ltb _ _ (c .if2 .left))
 
 pub too-big-spec : {M : Type 1} → statement M
-too-big-spec = tie.close (tie.spec returns returns-2 returns-3)
+too-big-spec =
+    tie.close (tie.spec
+    returns returns-2 returns-3)

@@ -1,10 +1,11 @@
-use Rattle.ground.proofs.ListLaws.{written-all}
+-- `columns::jacobian_ops::clear` meets its contract. Assumes nothing.
+use Prim.Native.Nat.{_-_}
+use lib.ListN.{length, set, replicate}
+use mathlib.Core.Path.{_≡_}
 use Rattle.columns.specs.Sums.{zero₊}
 use Rattle.ground.specs.Range.{range}
-use lib.ListN.{length, set, replicate}
-use Prim.Native.Nat.{_-_}
-use mathlib.Core.Path.{_≡_}
 use Rattle.columns.proofs.Rules.{rules}
+use Rattle.ground.proofs.ListLaws.{written-all}
 use Rattle.columns.proofs.jacobian_ops.clear.Statement.{statement}
 use Rattle.columns.proofs.jacobian_ops.clear.Tie as tie
 
@@ -18,26 +19,8 @@ abbrev μ-loop : tie.MeasureT-loop
 loop-holds : tie.Need-loop-holds Inv-loop μ-loop
 loop-holds c = (search rules, written-all zero₊ (c .args .y .now))
 
-mul-y : tie.Need-mul-y Inv-loop μ-loop
-mul-y c = search rules
-
-slice-write-y : tie.Need-slice-write-y Inv-loop μ-loop
-slice-write-y c = search rules
-
-add-i : tie.Need-add-i Inv-loop μ-loop
-add-i c = search rules
-
-loop-less : tie.Need-loop-less Inv-loop μ-loop
-loop-less c = search rules
-
-loop-again : tie.Need-loop-again Inv-loop μ-loop
-loop-again c = search rules
-
-same-length : tie.Need-same-length Inv-loop μ-loop
-same-length c = search rules
-
-returns : tie.Need-returns Inv-loop μ-loop
-returns c = search rules
-
 pub clear-spec : {M : Type 1} → statement M
-clear-spec = tie.close (tie.spec Inv-loop μ-loop loop-holds mul-y slice-write-y add-i loop-less loop-again same-length returns)
+clear-spec =
+    tie.close (tie.spec
+    Inv-loop μ-loop loop-holds (λ c. search rules) (λ c. search rules) (λ c. search rules) (λ c. search rules) (λ c. search rules)
+    (λ c. search rules) (λ c. search rules))

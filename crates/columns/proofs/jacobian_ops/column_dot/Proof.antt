@@ -1,31 +1,8 @@
+-- `columns::jacobian_ops::column_dot` meets its contract. Assumes nothing.
 use Rattle.columns.proofs.CallLaws.{told-by, told-refused, told-done, dot-passes, dot-refused, dot-done}
 use Rattle.columns.proofs.Rules.{rules}
 use Rattle.columns.proofs.jacobian_ops.column_dot.Statement.{statement}
 use Rattle.columns.proofs.jacobian_ops.column_dot.Tie as tie
-
-column-count-requires : tie.Need-column-count-requires
-column-count-requires c κs = search rules
-
-no-column-requires : tie.Need-no-column-requires
-no-column-requires c κs = search rules
-
-no-column-requires-2 : tie.Need-no-column-requires-2
-no-column-requires-2 c κs = search rules
-
-or-else-requires : tie.Need-or-else-requires
-or-else-requires c κs = search rules
-
-check-columns-requires : tie.Need-check-columns-requires
-check-columns-requires c κs = search rules
-
-or-else-requires-2 : tie.Need-or-else-requires-2
-or-else-requires-2 c κs = search rules
-
-enum-known-r : tie.Need-enum-known-r
-enum-known-r c = search rules
-
-enum-told : tie.Need-enum-told
-enum-told c = search rules
 
 dot-columns-requires : tie.Need-dot-columns-requires
 dot-columns-requires c κs =
@@ -44,4 +21,7 @@ returns-2 c =
     dot-done _ _ _ _ (told-done (o .or-else2 .result) _ (told-by (o .or-else2 .result) (o .before .check-columns .result) (o .before .before .or-else .result) _ _ (o .or-else2 .ensures) (o .before .check-columns .ensures) (told-by (o .before .before .or-else .result) (o .before .before .before .before .no-column .result) (o .before .before .before .no-column2 .result) _ _ (o .before .before .or-else .ensures) (rw (o .before .before .before .before .before .column-count .ensures) at (o .before .before .before .before .no-column .ensures)) (rw (o .before .before .before .before .before .column-count .ensures) at (o .before .before .before .no-column2 .ensures)))) (c .before .enum-told .given .1)) (c .dot-columns .ensures)
 
 pub column-dot-spec : {M : Type 1} → statement M
-column-dot-spec = tie.close (tie.spec column-count-requires no-column-requires no-column-requires-2 or-else-requires check-columns-requires or-else-requires-2 enum-known-r enum-told dot-columns-requires returns returns-2)
+column-dot-spec =
+    tie.close (tie.spec
+    (λ c κs. search rules) (λ c κs. search rules) (λ c κs. search rules) (λ c κs. search rules) (λ c κs. search rules)
+    (λ c κs. search rules) (λ c. search rules) (λ c. search rules) dot-columns-requires returns returns-2)

@@ -1,14 +1,14 @@
+-- `columns::jacobian_ops::gather_columns` meets its contract. Assumes nothing.
+use Prim.Native.Nat.{_-_}
 use lib.Ieee.{nan}
-use mathlib.Core.Path.{refl}
-use Rattle.ground.proofs.ListLaws.{written-list}
-use Rattle.columns.specs.JacobianOps.{gathered}
+use lib.ListN.{length, set}
+use mathlib.Core.Path.{refl, _≡_}
 use Rattle.columns.specs.Columns.{columnsOf}
+use Rattle.columns.specs.JacobianOps.{gathered}
 use Rattle.ground.specs.Gather.{listOf}
 use Rattle.ground.specs.Range.{range}
-use lib.ListN.{length, set}
-use Prim.Native.Nat.{_-_}
-use mathlib.Core.Path.{_≡_}
 use Rattle.columns.proofs.Rules.{rules}
+use Rattle.ground.proofs.ListLaws.{written-list}
 use Rattle.columns.proofs.jacobian_ops.gather_columns.Statement.{statement}
 use Rattle.columns.proofs.jacobian_ops.gather_columns.Tie as tie
 
@@ -22,29 +22,8 @@ abbrev μ-loop : tie.MeasureT-loop
 loop-holds : tie.Need-loop-holds Inv-loop μ-loop
 loop-holds c = (search rules, written-list nan _ _ (c .before .before .before .before .before .args .out .now) refl)
 
-gather-column-requires : tie.Need-gather-column-requires Inv-loop μ-loop
-gather-column-requires c κs = search rules
-
-mul-out : tie.Need-mul-out Inv-loop μ-loop
-mul-out c = search rules
-
-slice-write-out : tie.Need-slice-write-out Inv-loop μ-loop
-slice-write-out c = search rules
-
-add-j : tie.Need-add-j Inv-loop μ-loop
-add-j c = search rules
-
-loop-less : tie.Need-loop-less Inv-loop μ-loop
-loop-less c = search rules
-
-loop-again : tie.Need-loop-again Inv-loop μ-loop
-loop-again c = search rules
-
-same-length : tie.Need-same-length Inv-loop μ-loop
-same-length c = search rules
-
-returns : tie.Need-returns Inv-loop μ-loop
-returns c = search rules
-
 pub gather-columns-spec : {M : Type 1} → statement M
-gather-columns-spec = tie.close (tie.spec Inv-loop μ-loop loop-holds gather-column-requires mul-out slice-write-out add-j loop-less loop-again same-length returns)
+gather-columns-spec =
+    tie.close (tie.spec
+    Inv-loop μ-loop loop-holds (λ c κs. search rules) (λ c. search rules) (λ c. search rules) (λ c. search rules) (λ c. search rules)
+    (λ c. search rules) (λ c. search rules) (λ c. search rules))

@@ -1,25 +1,8 @@
+-- `columns::jacobian_ops::jt_vec` meets its contract. Assumes nothing.
 use Rattle.columns.proofs.CallLaws.{told-by, told-refused, told-done, jt-vec-refused, jt-vec-gathers, jt-vec-done}
 use Rattle.columns.proofs.Rules.{rules}
 use Rattle.columns.proofs.jacobian_ops.jt_vec.Statement.{statement}
 use Rattle.columns.proofs.jacobian_ops.jt_vec.Tie as tie
-
-column-count-requires : tie.Need-column-count-requires
-column-count-requires c κs = search rules
-
-check-columns-requires : tie.Need-check-columns-requires
-check-columns-requires c κs = search rules
-
-slice-aggregate-wrong-length : tie.Need-slice-aggregate-wrong-length
-slice-aggregate-wrong-length c = search rules
-
-wrong-length-requires : tie.Need-wrong-length-requires
-wrong-length-requires c κs = search rules
-
-or-else-requires : tie.Need-or-else-requires
-or-else-requires c κs = search rules
-
-enum-known-checked : tie.Need-enum-known-checked
-enum-known-checked c = search rules
 
 returns : tie.Need-returns
 returns c =
@@ -28,17 +11,11 @@ returns c =
     let r = c .before .checked .given in
     jt-vec-refused (s .args .nrows) (s .args .ptrs .now) (s .args .rows .now) (s .args .values .now) (s .args .v .now) (s .args .out .now) (r .0 .0) (told-refused (o .or-else .result) (r .0 .0) _ (told-by (o .or-else .result) (o .before .before .before .check-columns .result) (o .before .wrong-length .result) _ _ (o .or-else .ensures) (o .before .before .before .check-columns .ensures) (rw (o .before .before .before .before .column-count .ensures) at (o .before .wrong-length .ensures))) (r .1))
 
-enum-told : tie.Need-enum-told
-enum-told c = search rules
-
 gather-columns-requires : tie.Need-gather-columns-requires
 gather-columns-requires c κs =
     let s = c .before .before .before .before .before .before .before .before .before .before .before .before .before in
     let o = c .before .before .before in
     jt-vec-gathers (s .args .nrows) (s .args .ptrs .now) (s .args .rows .now) (s .args .values .now) (s .args .v .now) (s .args .out .now) (told-done (o .or-else .result) _ (told-by (o .or-else .result) (o .before .before .before .check-columns .result) (o .before .wrong-length .result) _ _ (o .or-else .ensures) (o .before .before .before .check-columns .ensures) (rw (o .before .before .before .before .column-count .ensures) at (o .before .wrong-length .ensures))) (c .before .enum-told .given .1))
-
-same-length : tie.Need-same-length
-same-length c = search rules
 
 returns-2 : tie.Need-returns-2
 returns-2 c =
@@ -47,4 +24,7 @@ returns-2 c =
     jt-vec-done (s .args .nrows) (s .args .ptrs .now) (s .args .rows .now) (s .args .values .now) (s .args .v .now) (s .args .out .now) _ (told-done (o .or-else .result) _ (told-by (o .or-else .result) (o .before .before .before .check-columns .result) (o .before .wrong-length .result) _ _ (o .or-else .ensures) (o .before .before .before .check-columns .ensures) (rw (o .before .before .before .before .column-count .ensures) at (o .before .wrong-length .ensures))) (c .before .before .before .before .enum-told .given .1)) (c .before .before .gather-columns .ensures)
 
 pub jt-vec-spec : {M : Type 1} → statement M
-jt-vec-spec = tie.close (tie.spec column-count-requires check-columns-requires slice-aggregate-wrong-length wrong-length-requires or-else-requires enum-known-checked returns enum-told gather-columns-requires same-length returns-2)
+jt-vec-spec =
+    tie.close (tie.spec
+    (λ c κs. search rules) (λ c κs. search rules) (λ c. search rules) (λ c κs. search rules) (λ c κs. search rules)
+    (λ c. search rules) returns (λ c. search rules) gather-columns-requires (λ c. search rules) returns-2)

@@ -1,3 +1,4 @@
+-- `columns::jacobian_ops::no_column` meets its contract. Assumes nothing.
 use borrow.Author.Tests.{le-leb, lt-leb}
 use Rattle.columns.specs.JacobianOps.{noColumn}
 use Rattle.columns.proofs.Rules.{rules}
@@ -13,4 +14,6 @@ unfolding noColumn
 returns-2 c = simp (lt-leb _ _ (c .if1 .left))
 
 pub no-column-spec : {M : Type 1} → statement M
-no-column-spec = tie.close (tie.spec returns returns-2)
+no-column-spec =
+    tie.close (tie.spec
+    returns returns-2)

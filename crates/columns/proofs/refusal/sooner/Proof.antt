@@ -1,25 +1,8 @@
-use Rattle.columns.proofs.RefusalLaws.{sooner-second, sooner-first, sooner-lower, sooner-higher}
+-- `columns::refusal::sooner` meets its contract. Assumes nothing.
 use Rattle.columns.proofs.CheckRules.{checking}
+use Rattle.columns.proofs.RefusalLaws.{sooner-second, sooner-first, sooner-lower, sooner-higher}
 use Rattle.columns.proofs.refusal.sooner.Statement.{statement}
 use Rattle.columns.proofs.refusal.sooner.Tie as tie
-
-enum-told : tie.Need-enum-told
-enum-told c = search checking
-
-enum-known-a : tie.Need-enum-known-a
-enum-known-a c = search checking
-
-enum-told-2 : tie.Need-enum-told-2
-enum-told-2 c = search checking
-
-enum-known-b : tie.Need-enum-known-b
-enum-known-b c = search checking
-
-number-requires : tie.Need-number-requires
-number-requires c κs = search checking
-
-number-requires-2 : tie.Need-number-requires-2
-number-requires-2 c κs = search checking
 
 returns : tie.Need-returns
 returns c = let s = c .before .before .before .before .before .before .before .before .before in sooner-lower (s .args .a) (s .args .b) (c .before .before .before .before .before .before .before .a .given .0 .0) (c .before .before .before .before .b .given .0 .0) _ _ (c .before .before .before .before .before .before .before .a .given .1) (c .before .before .before .before .b .given .1) (c .before .before .number .ensures) (c .before .number2 .ensures) (c .if1 .taken)
@@ -34,4 +17,7 @@ returns-4 : tie.Need-returns-4
 returns-4 c = let s = c .before .before .before .before .before .before .before .before .before in sooner-higher (s .args .a) (s .args .b) (c .before .before .before .before .before .before .before .a .given .0 .0) (c .before .before .before .before .b .given .0 .0) _ _ (c .before .before .before .before .before .before .before .a .given .1) (c .before .before .before .before .b .given .1) (c .before .before .number .ensures) (c .before .number2 .ensures) (c .if1 .left)
 
 pub sooner-spec : {M : Type 1} → statement M
-sooner-spec = tie.close (tie.spec enum-told enum-known-a enum-told-2 enum-known-b number-requires number-requires-2 returns returns-2 returns-3 returns-4)
+sooner-spec =
+    tie.close (tie.spec
+    (λ c. search checking) (λ c. search checking) (λ c. search checking) (λ c. search checking) (λ c κs. search checking)
+    (λ c κs. search checking) returns returns-2 returns-3 returns-4)

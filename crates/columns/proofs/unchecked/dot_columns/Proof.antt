@@ -1,6 +1,7 @@
-use Rattle.columns.proofs.MergeLaws.{Merging, merge-start, merge-fits, merge-less, merge-turn, merge-end-a, merge-end-b}
-use Rattle.columns.specs.Columns.{columnsOf}
+-- `columns::unchecked::dot_columns` meets its contract. Assumes nothing.
 use Prim.Native.Nat.{_+_, _-_}
+use Rattle.columns.specs.Columns.{columnsOf}
+use Rattle.columns.proofs.MergeLaws.{Merging, merge-start, merge-fits, merge-less, merge-turn, merge-end-a, merge-end-b}
 use Rattle.columns.proofs.Rules.{rules}
 use Rattle.columns.proofs.unchecked.dot_columns.Statement.{statement}
 use Rattle.columns.proofs.unchecked.dot_columns.Tie as tie
@@ -11,18 +12,6 @@ Inv-loop nrows ptrs rows values a b end-a end-b at₀ at =
 
 abbrev μ-loop : tie.MeasureT-loop
 μ-loop nrows ptrs rows values a b end-a end-b at₀ at = (end-a - at .ia) + (end-b - at .ib)
-
-end-place-requires : tie.Need-end-place-requires Inv-loop μ-loop
-end-place-requires c κs = search rules
-
-end-place-requires-2 : tie.Need-end-place-requires-2 Inv-loop μ-loop
-end-place-requires-2 c κs = search rules
-
-first-place-requires : tie.Need-first-place-requires Inv-loop μ-loop
-first-place-requires c κs = search rules
-
-first-place-requires-2 : tie.Need-first-place-requires-2 Inv-loop μ-loop
-first-place-requires-2 c κs = search rules
 
 loop-holds : tie.Need-loop-holds Inv-loop μ-loop
 loop-holds c = merge-start _ _ _ _ _ (c .before .first-place .ensures) (c .first-place2 .ensures)
@@ -52,4 +41,7 @@ returns-2 c =
     merge-end-a _ _ _ _ (l .loop .inv) (rw (l .before .before .before .before .end-place .ensures) at (c .if1 .left))
 
 pub dot-columns-spec : {M : Type 1} → statement M
-dot-columns-spec = tie.close (tie.spec Inv-loop μ-loop end-place-requires end-place-requires-2 first-place-requires first-place-requires-2 loop-holds returns merge-step-requires loop-less loop-again returns-2)
+dot-columns-spec =
+    tie.close (tie.spec
+    Inv-loop μ-loop (λ c κs. search rules) (λ c κs. search rules) (λ c κs. search rules) (λ c κs. search rules) loop-holds returns
+    merge-step-requires loop-less loop-again returns-2)

@@ -1,18 +1,9 @@
+-- `columns::unchecked::first_place` meets its contract. Assumes nothing.
 use Rattle.columns.proofs.Rules.{rules}
 use Rattle.columns.proofs.unchecked.first_place.Statement.{statement}
 use Rattle.columns.proofs.unchecked.first_place.Tie as tie
 
-mul-wide : tie.Need-mul-wide
-mul-wide c = search rules
-
-shared-slice-read-wide : tie.Need-shared-slice-read-wide
-shared-slice-read-wide c = search rules
-
-wide-requires : tie.Need-wide-requires
-wide-requires c κs = search rules
-
-returns : tie.Need-returns
-returns c = search rules
-
 pub first-place-spec : {M : Type 1} → statement M
-first-place-spec = tie.close (tie.spec mul-wide shared-slice-read-wide wide-requires returns)
+first-place-spec =
+    tie.close (tie.spec
+    (λ c. search rules) (λ c. search rules) (λ c κs. search rules) (λ c. search rules))

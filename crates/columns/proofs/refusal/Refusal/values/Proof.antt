@@ -1,48 +1,7 @@
+-- `columns::refusal::Refusal::values` meets its contract. Assumes nothing.
 use Rattle.columns.proofs.Rules.{rules}
 use Rattle.columns.proofs.refusal.Refusal.values.Statement.{statement}
 use Rattle.columns.proofs.refusal.Refusal.values.Tie as tie
-
-enum-told : tie.Need-enum-told
-enum-told c = search rules
-
-enum-told-2 : tie.Need-enum-told-2
-enum-told-2 c = search rules
-
-enum-known-self : tie.Need-enum-known-self
-enum-known-self c = search rules
-
-enum-known-self-2 : tie.Need-enum-known-self-2
-enum-known-self-2 c = search rules
-
-enum-told-3 : tie.Need-enum-told-3
-enum-told-3 c = search rules
-
-enum-known-self-3 : tie.Need-enum-known-self-3
-enum-known-self-3 c = search rules
-
-enum-known-self-4 : tie.Need-enum-known-self-4
-enum-known-self-4 c = search rules
-
-enum-known-self-5 : tie.Need-enum-known-self-5
-enum-known-self-5 c = search rules
-
-enum-known-self-6 : tie.Need-enum-known-self-6
-enum-known-self-6 c = search rules
-
-enum-known-self-7 : tie.Need-enum-known-self-7
-enum-known-self-7 c = search rules
-
-enum-known-self-8 : tie.Need-enum-known-self-8
-enum-known-self-8 c = search rules
-
-enum-told-4 : tie.Need-enum-told-4
-enum-told-4 c = search rules
-
-enum-known-self-9 : tie.Need-enum-known-self-9
-enum-known-self-9 c = search rules
-
-enum-known-self-10 : tie.Need-enum-known-self-10
-enum-known-self-10 c = search rules
 
 returns : tie.Need-returns
 returns c = rw (c .enum-told .given .1)
@@ -87,4 +46,9 @@ returns-14 : tie.Need-returns-14
 returns-14 c = rw (c .before .self10 .given .1)
 
 pub values-spec : {M : Type 1} → statement M
-values-spec = tie.close (tie.spec enum-told enum-told-2 enum-known-self enum-known-self-2 enum-told-3 enum-known-self-3 enum-known-self-4 enum-known-self-5 enum-known-self-6 enum-known-self-7 enum-known-self-8 enum-told-4 enum-known-self-9 enum-known-self-10 returns returns-2 returns-3 returns-4 returns-5 returns-6 returns-7 returns-8 returns-9 returns-10 returns-11 returns-12 returns-13 returns-14)
+values-spec =
+    tie.close (tie.spec
+    (λ c. search rules) (λ c. search rules) (λ c. search rules) (λ c. search rules) (λ c. search rules) (λ c. search rules)
+    (λ c. search rules) (λ c. search rules) (λ c. search rules) (λ c. search rules) (λ c. search rules) (λ c. search rules)
+    (λ c. search rules) (λ c. search rules) returns returns-2 returns-3 returns-4 returns-5 returns-6 returns-7 returns-8 returns-9
+    returns-10 returns-11 returns-12 returns-13 returns-14)
