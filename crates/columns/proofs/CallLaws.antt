@@ -117,55 +117,66 @@ module _ (m : Columns) (a b : ℕ) where
   unfolding columnDot onPass
   dot-done x e q = rw (← e, q)
 
-module _ (nrows : ℕ) (ptrs rows : List ℕ) (values : List Float) where
+-- n is the column count that the code read, and a what its checks answered
+module _ (nrows : ℕ) (ptrs rows : List ℕ) (values : List Float) (n : ℕ) (count : n ≡ length ptrs - 1) (a : Answer) where
   abbrev m : Columns
   m = columnsOf nrows ptrs rows values
 
-  module _ (v out : List Float) where
-    pub jt-vec-refused : (r : Refusal) → refused r ≡ jtVecChecked m v out → record { told = refused r; out = out } ≡ jtVec m v out
+  module _ (v out : List Float) (call : told a ≡ orElse (checked m) (wrongLength (length v ∷ nrows ∷ length out ∷ n ∷ []))) where
+    jt-vec-told : told a ≡ jtVecChecked m v out
+    jt-vec-told = rw count at call
+
+    pub jt-vec-refused : (r : Refusal) → a ≡ Refused r → record { told = refused r; out = out } ≡ jtVec m v out
     unfolding jtVec
-    jt-vec-refused r e = rw (← e, pass-refused r (listOf (gathered m v) (columnCount m)) out)
+    jt-vec-refused r e = rw (← told-refused a r _ jt-vec-told e, pass-refused r (listOf (gathered m v) (columnCount m)) out)
 
-    pub jt-vec-gathers : done ≡ jtVecChecked m v out → Gathers (columnsOf (length v) ptrs rows values) (length out)
-    jt-vec-gathers e = let p = jt-vec-passes m v out e in gathers-of _ nrows ptrs rows values _ (p .0) (p .1) (p .2)
+    pub jt-vec-gathers : a ≡ Done → Gathers (columnsOf (length v) ptrs rows values) (length out)
+    jt-vec-gathers e = let p = jt-vec-passes m v out (told-done a _ jt-vec-told e) in gathers-of _ nrows ptrs rows values _ (p .0) (p .1) (p .2)
 
-    pub jt-vec-done : (out′ : List Float) → done ≡ jtVecChecked m v out → out′ ≡ listOf (gathered m v) (length out) → record { told = done; out = out′ } ≡ jtVec m v out
+    pub jt-vec-done : (out′ : List Float) → a ≡ Done → out′ ≡ listOf (gathered m v) (length out) → record { told = done; out = out′ } ≡ jtVec m v out
     unfolding jtVec onPass
-    jt-vec-done out′ e q = rw (← e, q, jt-vec-passes m v out e .2)
+    jt-vec-done out′ e q = let d = told-done a _ jt-vec-told e in rw (← d, q, jt-vec-passes m v out d .2)
 
-  module _ (out : List Float) where
-    pub diag-refused : (r : Refusal) → refused r ≡ diagChecked m out → record { told = refused r; out = out } ≡ diagJtJ m out
+  module _ (out : List Float) (call : told a ≡ orElse (checked m) (wrongLength (length out ∷ n ∷ []))) where
+    diag-told : told a ≡ diagChecked m out
+    diag-told = rw count at call
+
+    pub diag-refused : (r : Refusal) → a ≡ Refused r → record { told = refused r; out = out } ≡ diagJtJ m out
     unfolding diagJtJ
-    diag-refused r e = rw (← e, pass-refused r (listOf (squared m) (columnCount m)) out)
+    diag-refused r e = rw (← told-refused a r _ diag-told e, pass-refused r (listOf (squared m) (columnCount m)) out)
 
-    pub diag-runs : done ≡ diagChecked m out → RunsThere ptrs (length values) (length out)
-    diag-runs e = let p = diag-passes m out e in rw (p .1) (runs-there (p .0))
+    pub diag-runs : a ≡ Done → RunsThere ptrs (length values) (length out)
+    diag-runs e = let p = diag-passes m out (told-done a _ diag-told e) in rw (p .1) (runs-there (p .0))
 
-    pub diag-done : (out′ : List Float) → done ≡ diagChecked m out → out′ ≡ listOf (squared m) (length out) → record { told = done; out = out′ } ≡ diagJtJ m out
+    pub diag-done : (out′ : List Float) → a ≡ Done → out′ ≡ listOf (squared m) (length out) → record { told = done; out = out′ } ≡ diagJtJ m out
     unfolding diagJtJ onPass
-    diag-done out′ e q = rw (← e, q, diag-passes m out e .1)
+    diag-done out′ e q = let d = told-done a _ diag-told e in rw (← d, q, diag-passes m out d .1)
 
-  module _ (v jv out : List Float) where
-    pub product-refused : (r : Refusal) → refused r ≡ productChecked m v jv out → record { told = refused r; jv = jv; out = out } ≡ jtJVecProduct m v jv out
+  module _ (v jv out : List Float) (call : told a ≡ orElse (checked m) (wrongLength (length v ∷ n ∷ length jv ∷ nrows ∷ length out ∷ n ∷ []))) where
+    product-told : told a ≡ productChecked m v jv out
+    product-told = rw count at call
+
+    pub product-refused : (r : Refusal) → a ≡ Refused r → record { told = refused r; jv = jv; out = out } ≡ jtJVecProduct m v jv out
     unfolding jtJVecProduct
-    product-refused r e = rw (← e, pass-refused r (sweptRows m v) jv, pass-refused r (listOf (gathered m (sweptRows m v)) (columnCount m)) out)
+    product-refused r e =
+        rw (← told-refused a r _ product-told e, pass-refused r (sweptRows m v) jv, pass-refused r (listOf (gathered m (sweptRows m v)) (columnCount m)) out)
 
-    -- y is the rows once they are cleared, and once they are swept
-    pub product-sweeps : (y : List Float) → done ≡ productChecked m v jv out → y ≡ replicate (length jv) zero₊ → Gathers (columnsOf (length y) ptrs rows values) (length v)
-    product-sweeps y e q =
-        let p = product-passes m v jv out e in
-        gathers-of _ nrows ptrs rows values _ (p .0) (ap length q ∙ length-replicate (length jv) zero₊ ∙ p .2) (p .1)
+    -- y is the rows once they are cleared, and z once they are swept
+    module _ (pass : a ≡ Done) (y : List Float) (cleared : y ≡ replicate (length jv) zero₊) where
+      passes : Keeps m × (length v ≡ columnCount m) × (length jv ≡ m .nrows) × (length out ≡ columnCount m)
+      passes = product-passes m v jv out (told-done a _ product-told pass)
 
-    swept-is : (y z : List Float) → done ≡ productChecked m v jv out → y ≡ replicate (length jv) zero₊ → z ≡ sweptOn Plus y (allTerms m v) → z ≡ sweptRows m v
-    swept-is y z e q w = let p = product-passes m v jv out e in w ∙ rw (q, p .2)
+      pub product-sweeps : Gathers (columnsOf (length y) ptrs rows values) (length v)
+      product-sweeps = gathers-of _ nrows ptrs rows values _ (passes .0) (ap length cleared ∙ length-replicate (length jv) zero₊ ∙ passes .2) (passes .1)
 
-    pub product-gathers : (y z : List Float) → done ≡ productChecked m v jv out → y ≡ replicate (length jv) zero₊ → z ≡ sweptOn Plus y (allTerms m v)
-        → Gathers (columnsOf (length z) ptrs rows values) (length out)
-    product-gathers y z e q w =
-        let p = product-passes m v jv out e in
-        gathers-of _ nrows ptrs rows values _ (p .0) (ap length (swept-is y z e q w) ∙ length-swept Plus _ (allTerms m v) ∙ length-replicate nrows zero₊) (p .3)
+      module _ (z : List Float) (swept : z ≡ sweptOn Plus y (allTerms m v)) where
+        swept-is : z ≡ sweptRows m v
+        swept-is = swept ∙ rw (cleared, passes .2)
 
-    pub product-done : (y z out′ : List Float) → done ≡ productChecked m v jv out → y ≡ replicate (length jv) zero₊ → z ≡ sweptOn Plus y (allTerms m v)
-        → out′ ≡ listOf (gathered m z) (length out) → record { told = done; jv = z; out = out′ } ≡ jtJVecProduct m v jv out
-    unfolding jtJVecProduct onPass
-    product-done y z out′ e q w g = rw (← e, ← swept-is y z e q w, g, product-passes m v jv out e .3)
+        pub product-gathers : Gathers (columnsOf (length z) ptrs rows values) (length out)
+        product-gathers =
+            gathers-of _ nrows ptrs rows values _ (passes .0) (ap length swept-is ∙ length-swept Plus _ (allTerms m v) ∙ length-replicate nrows zero₊) (passes .3)
+
+        pub product-done : (out′ : List Float) → out′ ≡ listOf (gathered m z) (length out) → record { told = done; jv = z; out = out′ } ≡ jtJVecProduct m v jv out
+        unfolding jtJVecProduct onPass
+        product-done out′ g = rw (← told-done a _ product-told pass, ← swept-is, g, passes .3)

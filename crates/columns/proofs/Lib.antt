@@ -6,3 +6,4 @@ pub mod CallLaws
 mod CheckRules
 mod MergeLaws
 mod Rules
+mod Determined

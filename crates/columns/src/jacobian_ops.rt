@@ -17,8 +17,9 @@ ghost use mathlib.Core.Path.{_≡_};
 ghost use Prim.Native.Nat.{_+_};
 ghost use lib.ListN.{length, replicate};
 ghost use Rattle.ground.specs.Gather.{gather, listOf};
-ghost use Rattle.columns.specs.Refusals.{told};
-ghost use Rattle.columns.specs.Columns.{columnsOf};
+ghost use Rattle.columns.specs.Refusals.{told, orElse};
+ghost use Rattle.columns.specs.Lengths.{wrongLength};
+ghost use Rattle.columns.specs.Columns.{columnsOf, checked};
 ghost use Rattle.columns.specs.declared.unchecked.Sign.the-variants.{Plus};
 ghost use Rattle.columns.specs.Sums.{zero₊, zero₋, sumFrom, sweptOn};
 ghost use Rattle.columns.specs.JacobianOps.{squareTerm, gathered, squaredIn, allTerms, noColumn, dotted, columnDot, jtVec, diagJtJ, jtJVecProduct};
@@ -69,6 +70,16 @@ fn gather_columns(ptrs: &[u32], rows: &[u32], values: &[f64], v: &[f64], out: &m
     }
 }
 
+// The columns, then the lengths of what else is lent, as pairs.
+fn check_lent(nrows: usize, ptrs: &[u32], rows: &[u32], values: &[f64], pairs: &[usize]) -> Answer
+    ensures { λ r. ⌜ told r ≡ orElse (checked (columnsOf nrows (now (ptrs .entry)) (now (rows .entry)) (now (values .entry)))) (wrongLength (now (pairs .entry))) ⌝ }
+{
+    or_else(
+        check_columns(nrows, ptrs, rows, values),
+        wrong_length(pairs),
+    )
+}
+
 // `Jᵀ·v` for a vector `v` over the rows.
 pub fn jt_vec(
     nrows: usize,
@@ -81,10 +92,7 @@ pub fn jt_vec(
     ensures { λ r. ⌜ record { told = told r; out = now (out .exit) } ≡ jtVec (columnsOf nrows (now (ptrs .entry)) (now (rows .entry)) (now (values .entry))) (now (v .entry)) (now (out .entry)) ⌝ }
 {
     let lengths = [v.len(), nrows, out.len(), column_count(ptrs)];
-    let checked = or_else(
-        check_columns(nrows, ptrs, rows, values),
-        wrong_length(&lengths),
-    );
+    let checked = check_lent(nrows, ptrs, rows, values, &lengths);
     if let Answer::Refused(r) = checked {
         return Answer::Refused(r);
     }
@@ -133,10 +141,7 @@ pub fn diag_jt_j(
     ensures { λ r. ⌜ record { told = told r; out = now (out .exit) } ≡ diagJtJ (columnsOf nrows (now (ptrs .entry)) (now (rows .entry)) (now (values .entry))) (now (out .entry)) ⌝ }
 {
     let lengths = [out.len(), column_count(ptrs)];
-    let checked = or_else(
-        check_columns(nrows, ptrs, rows, values),
-        wrong_length(&lengths),
-    );
+    let checked = check_lent(nrows, ptrs, rows, values, &lengths);
     if let Answer::Refused(r) = checked {
         return Answer::Refused(r);
     }
@@ -177,10 +182,7 @@ pub fn jt_j_vec_product(
 {
     let n = column_count(ptrs);
     let lengths = [v.len(), n, jv.len(), nrows, out.len(), n];
-    let checked = or_else(
-        check_columns(nrows, ptrs, rows, values),
-        wrong_length(&lengths),
-    );
+    let checked = check_lent(nrows, ptrs, rows, values, &lengths);
     if let Answer::Refused(r) = checked {
         return Answer::Refused(r);
     }

@@ -1,37 +1,35 @@
 -- `columns::jacobian_ops::jt_j_vec_product` meets its contract. Assumes nothing.
-use Rattle.columns.proofs.CallLaws.{told-by, told-refused, told-done, product-refused, product-sweeps, product-gathers, product-done}
+use Rattle.columns.proofs.CallLaws.{product-refused, product-sweeps, product-gathers, product-done}
 use Rattle.columns.proofs.Rules.{rules}
 use Rattle.columns.proofs.jacobian_ops.jt_j_vec_product.Statement.{statement}
 use Rattle.columns.proofs.jacobian_ops.jt_j_vec_product.Tie as tie
 
 returns : tie.Need-returns
 returns c =
-    let s = c .before .before .before .before .before .before .before .before .before .before .before .before .before .before in
-    let o = c .before .before .before in
-    let r = c .before .checked .given in
-    product-refused (s .args .nrows) (s .args .ptrs .now) (s .args .rows .now) (s .args .values .now) (s .args .v .now) (s .args .jv .now) (s .args .out .now) (r .0 .0) (told-refused (o .or-else .result) (r .0 .0) _ (told-by (o .or-else .result) (o .before .before .before .check-columns .result) (o .before .wrong-length .result) _ _ (o .or-else .ensures) (o .before .before .before .check-columns .ensures) (rw (o .before .before .before .before .column-count .ensures) at (o .before .wrong-length .ensures))) (r .1))
+    let s = c .before .before .before .before .before .before .before .before .before .before .before .before in
+    let k = c .before .before .before in
+    product-refused (s .args .nrows) (s .args .ptrs .now) (s .args .rows .now) (s .args .values .now) _ (k .before .before .column-count .ensures) (k .check-lent .result) (s .args .v .now) (s .args .jv .now) (s .args .out .now) (k .check-lent .ensures) (c .before .checked .given .0 .0) (c .before .checked .given .1)
 
 sweep-columns-requires : tie.Need-sweep-columns-requires
 sweep-columns-requires c κs =
-    let s = c .before .before .before .before .before .before .before .before .before .before .before .before .before .before .before .before .before .before in
-    let o = c .before .before .before .before .before .before .before in
-    product-sweeps (s .args .nrows) (s .args .ptrs .now) (s .args .rows .now) (s .args .values .now) (s .args .v .now) (s .args .jv .now) (s .args .out .now) _ (told-done (o .or-else .result) _ (told-by (o .or-else .result) (o .before .before .before .check-columns .result) (o .before .wrong-length .result) _ _ (o .or-else .ensures) (o .before .before .before .check-columns .ensures) (rw (o .before .before .before .before .column-count .ensures) at (o .before .wrong-length .ensures))) (c .before .before .before .before .before .enum-told .given .1)) (c .before .before .before .clear .ensures)
+    let s = c .before .before .before .before .before .before .before .before .before .before .before .before .before .before .before .before in
+    let k = c .before .before .before .before .before .before .before in
+    product-sweeps (s .args .nrows) (s .args .ptrs .now) (s .args .rows .now) (s .args .values .now) _ (k .before .before .column-count .ensures) (k .check-lent .result) (s .args .v .now) (s .args .jv .now) (s .args .out .now) (k .check-lent .ensures) (c .before .before .before .before .before .enum-told .given .1) _ (c .before .before .before .clear .ensures)
 
 gather-columns-requires : tie.Need-gather-columns-requires
 gather-columns-requires c κs =
-    let s = c .before .before .before .before .before .before .before .before .before .before .before .before .before .before .before .before .before .before .before .before .before .before .before in
-    let o = c .before .before .before .before .before .before .before .before .before .before .before .before in
-    product-gathers (s .args .nrows) (s .args .ptrs .now) (s .args .rows .now) (s .args .values .now) (s .args .v .now) (s .args .jv .now) (s .args .out .now) _ _ (told-done (o .or-else .result) _ (told-by (o .or-else .result) (o .before .before .before .check-columns .result) (o .before .wrong-length .result) _ _ (o .or-else .ensures) (o .before .before .before .check-columns .ensures) (rw (o .before .before .before .before .column-count .ensures) at (o .before .wrong-length .ensures))) (c .before .before .before .before .before .before .before .before .before .before .enum-told .given .1)) (c .before .before .before .before .before .before .before .before .clear .ensures) (c .before .before .before .before .sweep-columns .ensures)
+    let s = c .before .before .before .before .before .before .before .before .before .before .before .before .before .before .before .before .before .before .before .before .before in
+    let k = c .before .before .before .before .before .before .before .before .before .before .before .before in
+    product-gathers (s .args .nrows) (s .args .ptrs .now) (s .args .rows .now) (s .args .values .now) _ (k .before .before .column-count .ensures) (k .check-lent .result) (s .args .v .now) (s .args .jv .now) (s .args .out .now) (k .check-lent .ensures) (c .before .before .before .before .before .before .before .before .before .before .enum-told .given .1) _ (c .before .before .before .before .before .before .before .before .clear .ensures) _ (c .before .before .before .before .sweep-columns .ensures)
 
 returns-2 : tie.Need-returns-2
 returns-2 c =
-    let s = c .before .before .before .before .before .before .before .before .before .before .before .before .before .before .before .before .before .before .before .before .before .before .before .before .before .before in
-    let o = c .before .before .before .before .before .before .before .before .before .before .before .before .before .before .before in
-    product-done (s .args .nrows) (s .args .ptrs .now) (s .args .rows .now) (s .args .values .now) (s .args .v .now) (s .args .jv .now) (s .args .out .now) _ _ _ (told-done (o .or-else .result) _ (told-by (o .or-else .result) (o .before .before .before .check-columns .result) (o .before .wrong-length .result) _ _ (o .or-else .ensures) (o .before .before .before .check-columns .ensures) (rw (o .before .before .before .before .column-count .ensures) at (o .before .wrong-length .ensures))) (c .before .before .before .before .before .before .before .before .before .before .before .before .before .enum-told .given .1)) (c .before .before .before .before .before .before .before .before .before .before .before .clear .ensures) (c .before .before .before .before .before .before .before .sweep-columns .ensures) (c .before .before .gather-columns .ensures)
+    let s = c .before .before .before .before .before .before .before .before .before .before .before .before .before .before .before .before .before .before .before .before .before .before .before .before in
+    let k = c .before .before .before .before .before .before .before .before .before .before .before .before .before .before .before in
+    product-done (s .args .nrows) (s .args .ptrs .now) (s .args .rows .now) (s .args .values .now) _ (k .before .before .column-count .ensures) (k .check-lent .result) (s .args .v .now) (s .args .jv .now) (s .args .out .now) (k .check-lent .ensures) (c .before .before .before .before .before .before .before .before .before .before .before .before .before .enum-told .given .1) _ (c .before .before .before .before .before .before .before .before .before .before .before .clear .ensures) _ (c .before .before .before .before .before .before .before .sweep-columns .ensures) _ (c .before .before .gather-columns .ensures)
 
 pub jt-j-vec-product-spec : {M : Type 1} → statement M
 jt-j-vec-product-spec =
     tie.close (tie.spec
-    (λ c κs. search rules) (λ c κs. search rules) (λ c. search rules) (λ c κs. search rules) (λ c κs. search rules)
-    (λ c. search rules) returns (λ c. search rules) (λ c κs. search rules) sweep-columns-requires gather-columns-requires
-    (λ c. search rules) (λ c. search rules) returns-2)
+    (λ c κs. search rules) (λ c. search rules) (λ c κs. search rules) (λ c. search rules) returns (λ c. search rules)
+    (λ c κs. search rules) sweep-columns-requires gather-columns-requires (λ c. search rules) (λ c. search rules) returns-2)
