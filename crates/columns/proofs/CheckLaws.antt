@@ -1,6 +1,6 @@
 -- What a passed check of columns is worth, and that columns which keep the rules pass. The facts that the layers above need of good columns,
 -- and what gives the functions of src/unchecked.rt their `requires`, are at the end. Assumes nothing.
-use mathlib.Core.Path.{_≡_, refl, ap, _∙_, subst}
+use mathlib.Core.Path.{_≡_, refl, sym, ap, _∙_, subst}
 use mathlib.Core.Bool.{Bool, true, false, not, _&&_, _||_}
 use mathlib.Core.List.{List, [], _∷_}
 use Prim.Native.Nat.{ℕ, zero, suc, _+_, _-_, _≤_, _<_}
@@ -9,7 +9,7 @@ use native.Mathlib.Omega.{arith}
 use lib.Dec.{ltb, leb, eqb}
 use lib.ListN.{length, getD}
 use borrow.Author.Tests.{lt-ltb, le-ltb, lt-leb, eq-eqb, ne-eqb, ltb-true, ltb-false, leb-false, eqb-true, eqb-false, not-false}
-use Rattle.ground.specs.First.{first}
+use Rattle.ground.specs.First.{first, some}
 use Rattle.ground.proofs.FirstLaws.{past-none, none-past, first-stop, first-low}
 use Rattle.columns.specs.Refusals.{tell, done, Passes}
 use Rattle.columns.specs.Columns.{
@@ -24,6 +24,7 @@ use Rattle.columns.specs.Columns.{
   tooBig,
   falls,
   badShape,
+  rowFalls,
   rowBad,
   badPlace,
   columnBad,
@@ -122,28 +123,29 @@ module _ (m : Columns) where
   -- What the loop over the columns shows at column j: where it stops, where it goes on, and where it has passed all. n, from and to are what
   -- the code read: the column count, and the column's first and end places.
   module _ (j n : ℕ) (count : n ≡ columnCount m) where
-    pub bad-row-at : (from to p : ℕ) → j < n → first (columnBad m) j n ≡ badColumn m → from ≡ firstPlace m j → to ≡ endPlace m j
-        → p ≡ first (rowBad (m .nrows) (m .rows) from) from to → p < to → tell 3 (j ∷ p ∷ []) ≡ badRow m
-    unfolding badRow columnBad
-    bad-row-at from to p l inv f t e h =
-        let g : p ≡ badPlace m j = rw (f, t) at e in
-        let b : columnBad m j ≡ true = lt-ltb _ _ (rw (g, t) at h) in
-        let q : j ≡ badColumn m = first-stop (columnBad m) l inv b in
-        let k : j < columnCount m = rw count at l in
-        rw (← q, lt-ltb _ _ k, g)
+    -- b is what the test of the column answered
+    module _ (from to : ℕ) (f : from ≡ firstPlace m j) (t : to ≡ endPlace m j) (b : Bool) (test : b ≡ some (rowBad (m .nrows) (m .rows) from) from to) where
+      column-is : b ≡ columnBad m j
+      unfolding columnBad
+      column-is = rw (f, t) at test
 
-    pub column-good : (from to p : ℕ) → from ≡ firstPlace m j → to ≡ endPlace m j → p ≡ first (rowBad (m .nrows) (m .rows) from) from to → to ≤ p → columnBad m j ≡ false
-    unfolding columnBad
-    column-good from to p f t e h =
-        let g : p ≡ badPlace m j = rw (f, t) at e in
-        le-ltb _ _ (rw (g, t) at h)
+      pub bad-row-at : (p : ℕ) → j < n → first (columnBad m) j n ≡ badColumn m → b ≡ true → p ≡ first (rowBad (m .nrows) (m .rows) from) from to
+          → tell 3 (j ∷ p ∷ []) ≡ badRow m
+      unfolding badRow
+      bad-row-at p l inv e g =
+          let q : j ≡ badColumn m = first-stop (columnBad m) l inv (sym column-is ∙ e) in
+          let k : j < columnCount m = rw count at l in
+          rw (← q, lt-ltb _ _ k, rw (f, t) at g)
+
+      pub column-good : b ≡ false → columnBad m j ≡ false
+      column-good e = sym column-is ∙ e
 
     pub bad-row-none : n ≤ j → first (columnBad m) j n ≡ badColumn m → done ≡ badRow m
     unfolding badRow
     bad-row-none l inv = rw (le-ltb (badColumn m) (columnCount m) (rw (← inv, ← count) (le-trans l (first-low (columnBad m) j n))))
 
   sorted-of : Passes (badRow m) → Sorted m
-  unfolding badRow columnBad rowBad
+  unfolding badRow columnBad rowBad rowFalls
   sorted-of e = record {
     below = λ j p w. leb-false _ _ (good j p w .0);
     ascends = λ j p w h. leb-false _ _ (and-false _ _ (lt-ltb _ _ h) (good j p w .1));
@@ -155,7 +157,7 @@ module _ (m : Columns) where
           (past-none (columnBad m) 0 (columnCount m) (passed _ 2 _ done e .0) j (omega arith) (w .column)) p (w .low) (w .high))
 
   sorted-ok : Sorted m → badRow m ≡ done
-  unfolding badRow columnBad rowBad
+  unfolding badRow columnBad rowBad rowFalls
   sorted-ok s =
       rw (none-past (columnBad m) 0 (columnCount m) (λ j _ l.
       none-past (rowBad (m .nrows) (m .rows) (firstPlace m j)) (firstPlace m j) (endPlace m j) (λ p low high.

@@ -2,15 +2,17 @@
 use mathlib.Core.Path.{_≡_, refl, sym, ap, _∙_}
 use mathlib.Core.Bool.{Bool, true, false, _&&_, _||_, cond}
 use mathlib.Core.List.{List, [], _∷_}
-use Prim.Native.Nat.{ℕ, _+_, _-_, _/_, _≤_, _<_}
+use Prim.Native.Nat.{ℕ, zero, suc, _+_, _-_, _/_, _≤_, _<_}
 use native.Mathlib.Omega.{arith}
 use lib.Dec.{ltb, leb}
 use lib.ListN.{length, getD}
-use borrow.Author.Tests.{lt-ltb, le-ltb, leb-true, leb-false}
+use borrow.Author.Tests.{lt-ltb, le-ltb, le-leb, lt-leb, ltb-true, leb-true, leb-false}
+use Rattle.ground.specs.First.{first, some, None}
+use Rattle.ground.proofs.FirstLaws.{first-none, first-low, first-bad, past-none, none-past, some-at}
 use Rattle.ground.proofs.Rules.{searches}
 use Rattle.columns.specs.Refusals.{tell, done}
 use Rattle.columns.specs.Lengths.{lengthOf, needOf, pairBad, badPair, pairsTold}
-use Rattle.columns.specs.Columns.{falls, rowBad}
+use Rattle.columns.specs.Columns.{falls, rowFalls, rowBad}
 
 -- ---- the pointers
 
@@ -38,7 +40,7 @@ least-next rows from p row l e = let q : p + 1 - 1 ≡ p = omega arith in rw (lt
 
 module _ (nrows : ℕ) (rows : List ℕ) (from p : ℕ) where
   row-is : (leb nrows (getD rows p 0) || ltb (getD rows p 0) (leastAt rows from p)) ≡ rowBad nrows rows from p
-  unfolding rowBad leastAt
+  unfolding rowBad rowFalls leastAt
   row-is = ap (λ (b : Bool). leb nrows (getD rows p 0) || b) (go (ltb from p) refl)
     where
       at : (b : Bool) → leb (getD rows p 0) (getD rows (p - 1) 0) ≡ b → ltb (getD rows p 0) (getD rows (p - 1) 0 + 1) ≡ b
@@ -53,6 +55,60 @@ module _ (nrows : ℕ) (rows : List ℕ) (from p : ℕ) where
   pub row-told : (row least : ℕ) (t b : Bool) → t ≡ (leb nrows row || ltb row least) → row ≡ getD rows p 0 → least ≡ leastAt rows from p → t ≡ b → rowBad nrows rows from p ≡ b
   row-told row least t b call e q test =
       sym (ap (λ (r : ℕ). leb nrows r || ltb r least) e ∙ ap (λ (l : ℕ). leb nrows (getD rows p 0) || ltb (getD rows p 0) l) q ∙ row-is) ∙ sym call ∙ test
+
+-- A column's rows are looked at as a whole: its last row is too large, or one is not above the one before it, exactly where some entry is bad.
+module _ (nrows : ℕ) (rows : List ℕ) (from to : ℕ) where
+  pub column-empty : to ≤ from → false ≡ some (rowBad nrows rows from) from to
+  column-empty h = rw (first-none (rowBad nrows rows from) from to h, le-ltb from to h)
+
+  -- last is the last row, as the code read it
+  pub column-high : (last : ℕ) → from < to → last ≡ getD rows (to - 1) 0 → nrows ≤ last → true ≡ some (rowBad nrows rows from) from to
+  unfolding rowBad
+  column-high last l e h = sym (some-at (rowBad nrows rows from) from to (to - 1) (omega arith) (omega arith) (rw (le-leb nrows (getD rows (to - 1) 0) (rw e at h))))
+
+  fall-bad : (p : ℕ) → from + 1 ≤ p → rowFalls rows p ≡ true → rowBad nrows rows from p ≡ true
+  unfolding rowBad
+  fall-bad p l e = rw (lt-ltb from p (omega arith), e) (go (leb nrows (getD rows p 0)))
+    where
+      go : (b : Bool) → (b || true) ≡ true
+      go true = refl
+      go false = refl
+
+  -- rows that rise end at the largest
+  rise : None (rowFalls rows) (from + 1) to → (d p : ℕ) → from ≤ p → p + d ≡ to - 1 → from < to → getD rows p 0 ≤ getD rows (to - 1) 0
+  unfolding rowFalls
+  rise none zero p l e h = let q : p ≡ to - 1 = omega arith in rw q (omega arith)
+  rise none (suc d) p l e h =
+      let q : p + 1 - 1 ≡ p = omega arith in
+      let u = leb-false (getD rows (p + 1) 0) (getD rows (p + 1 - 1) 0) (none (p + 1) (omega arith) (omega arith)) in
+      omega (arith, rise none d (p + 1) (omega arith) (omega arith) h, rw q at u)
+
+  rise-good : (last : ℕ) → from < to → last ≡ getD rows (to - 1) 0 → last < nrows → None (rowFalls rows) (from + 1) to → None (rowBad nrows rows from) from to
+  unfolding rowBad
+  rise-good last l e h none p a b =
+      rw (lt-leb nrows (getD rows p 0) (omega (arith, rise none (to - 1 - p) p a (omega arith) l, e))) (go (ltb from p) refl)
+    where
+      go : (t : Bool) → ltb from p ≡ t → (t && rowFalls rows p) ≡ false
+      go true t = none p (omega (arith, ltb-true from p t)) b
+      go false t = refl
+
+  pub column-falls : (last : ℕ) (b : Bool) → from < to → last ≡ getD rows (to - 1) 0 → last < nrows → b ≡ some (rowFalls rows) (from + 1) to
+      → b ≡ some (rowBad nrows rows from) from to
+  column-falls last b l e h q = q ∙ go (some (rowFalls rows) (from + 1) to) refl
+    where
+      go : (t : Bool) → some (rowFalls rows) (from + 1) to ≡ t → t ≡ some (rowBad nrows rows from) from to
+      go true t =
+          let k = first (rowFalls rows) (from + 1) to in
+          let w = first-low (rowFalls rows) (from + 1) to in
+          sym (some-at (rowBad nrows rows from) from to k (omega arith) (ltb-true k to t) (fall-bad k w (first-bad (rowFalls rows) (from + 1) to (ltb-true k to t))))
+      go false t = sym (none-past (rowBad nrows rows from) from to (rise-good last l e h (past-none (rowFalls rows) (from + 1) to t)))
+
+pub falls-read : (rows : List ℕ) (p : ℕ) → leb (getD rows p 0) (getD rows (p - 1) 0) ≡ rowFalls rows p
+unfolding rowFalls
+falls-read rows p = refl
+
+pub or-of : (b t u : Bool) → t ≡ u → (b || t) ≡ (b || u)
+or-of b t u e = rw e
 
 -- ---- what is lent
 
@@ -78,4 +134,4 @@ module _ (n k : ℕ) (exact : Bool) (pairs : List ℕ) (e : k ≡ badPair exact 
   unfolding pairsTold
   pairs-done l = rw (← e, le-ltb k (length pairs / 2) l)
 
-pub ruleset checking = (searches, falls-at, rises-at, least-first, least-next, row-told, pair-short, pair-long, pair-fine, pair-told, pairs-done)
+pub ruleset checking = (searches, column-empty, column-high, column-falls, falls-read, or-of, falls-at, rises-at, least-first, least-next, row-told, pair-short, pair-long, pair-fine, pair-told, pairs-done)

@@ -1,9 +1,9 @@
 -- Any two outcomes that an entry point's contract permits agree. `reads.Post` is the contract's own reading: at the arguments a, the result and
 -- the parameters as the call leaves them. Each is the general law `by-equation`, since an answer can be had back from what it tells.
 -- Assumes nothing.
-use mathlib.Core.Path.{_≡_, refl, ap, sym, _∙_}
+use mathlib.Core.Path.{_≡_, refl, ap}
 use mathlib.Core.Bool.{cond}
-use mathlib.Core.List.{List, [], _∷_}
+use mathlib.Core.List.{List}
 use contract.Lifetimes.{Lfts}
 use denote.Ref.{now}
 use lib.Dec.{eqb}

@@ -6,7 +6,7 @@ use Prim.Native.Nat.{ℕ, _+_, _-_, _≤_, _<_}
 use lib.Dec.{ltb, leb, eqb}
 use lib.Ieee.{Float}
 use lib.ListN.{length, getD}
-use Rattle.ground.specs.First.{first}
+use Rattle.ground.specs.First.{first, some}
 use Rattle.columns.specs.Refusals.{Told, tell, done}
 
 -- columns as they are lent: the row count, the pointers, the row numbers and the values
@@ -53,19 +53,23 @@ unfoldable pub badShape : List ℕ → ℕ → ℕ → Bool
 badShape ptrs entries nvalues =
     eqb (length ptrs) 0
     || (not (eqb (getD ptrs 0 0) 0)
-    || (ltb (first (falls ptrs) 0 (length ptrs - 1)) (length ptrs - 1)
+    || (some (falls ptrs) 0 (length ptrs - 1)
     || (not (eqb (getD ptrs (length ptrs - 1) 0) entries) || not (eqb nvalues entries))))
+
+-- the row at place p is not above the one before it
+unfoldable pub rowFalls : List ℕ → ℕ → Bool
+rowFalls rows p = leb (getD rows p 0) (getD rows (p - 1) 0)
 
 -- the entry at place p, in a column that begins at `from`, has a row too large, or not above the one before it in its column
 unfoldable pub rowBad : ℕ → List ℕ → ℕ → ℕ → Bool
-rowBad nrows rows from p = leb nrows (getD rows p 0) || (ltb from p && leb (getD rows p 0) (getD rows (p - 1) 0))
+rowBad nrows rows from p = leb nrows (getD rows p 0) || (ltb from p && rowFalls rows p)
 
 -- the first such place of a column, or its end
 abbrev pub badPlace : Columns → ℕ → ℕ
 badPlace m j = first (rowBad (m .nrows) (m .rows) (firstPlace m j)) (firstPlace m j) (endPlace m j)
 
 unfoldable pub columnBad : Columns → ℕ → Bool
-columnBad m j = ltb (badPlace m j) (endPlace m j)
+columnBad m j = some (rowBad (m .nrows) (m .rows) (firstPlace m j)) (firstPlace m j) (endPlace m j)
 
 -- the first column that has one, or the column count
 abbrev pub badColumn : Columns → ℕ

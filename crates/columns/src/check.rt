@@ -6,12 +6,12 @@ use crate::unchecked::first_place;
 use ground::wide;
 ghost use mathlib.Core.Path.{_≡_};
 ghost use mathlib.Core.Bool.{_||_};
-ghost use Prim.Native.Nat.{_-_, _<_};
+ghost use Prim.Native.Nat.{_+_, _-_, _<_};
 ghost use lib.Dec.{leb, ltb};
 ghost use lib.ListN.{length};
-ghost use Rattle.ground.specs.First.{first};
+ghost use Rattle.ground.specs.First.{first, some};
 ghost use Rattle.columns.specs.Refusals.{told};
-ghost use Rattle.columns.specs.Columns.{columnsOf, tooBig, falls, badShape, rowBad, badRow, checked, Shaped};
+ghost use Rattle.columns.specs.Columns.{columnsOf, tooBig, falls, badShape, rowFalls, rowBad, badRow, checked, Shaped};
 ghost use Rattle.columns.specs.Unchecked.{RunThere};
 
 const MOST_ROWS: usize = 1_048_576;
@@ -102,6 +102,43 @@ fn bad_place(nrows: usize, rows: &[u32], from: usize, to: usize) -> usize
     to
 }
 
+// Whether the row at place p is not above the one before it.
+fn row_falls(rows: &[u32], p: usize) -> bool
+    requires { ⌜ RunThere (length (now rows)) p (p + 1) ⌝ }
+    requires { ⌜ 0 < p ⌝ }
+    ensures { λ r. ⌜ r ≡ rowFalls (now (rows .entry)) p ⌝ }
+{
+    rows[p] <= rows[p - 1]
+}
+
+// Whether a row of places lo up to hi is not above the one before it. It looks at all of them, without a branch, so that the compiler can
+// take several at a time.
+fn some_row_falls(rows: &[u32], lo: usize, hi: usize) -> bool
+    requires { ⌜ RunThere (length (now rows)) lo hi ⌝ }
+    requires { ⌜ 0 < lo ⌝ }
+    ensures { λ r. ⌜ r ≡ some (rowFalls (now (rows .entry))) lo hi ⌝ }
+{
+    let mut bad = false;
+    for p in lo..hi {
+        bad = bad | row_falls(rows, p);
+    }
+    bad
+}
+
+// Whether a column has a bad entry: a row that is not above the one before it, or a last row that is too large.
+fn column_bad(nrows: usize, rows: &[u32], from: usize, to: usize) -> bool
+    requires { ⌜ RunThere (length (now rows)) from to ⌝ }
+    ensures { λ r. ⌜ r ≡ some (rowBad nrows (now (rows .entry)) from) from to ⌝ }
+{
+    if to <= from {
+        return false;
+    }
+    if nrows <= wide(rows[to - 1]) {
+        return true;
+    }
+    some_row_falls(rows, from + 1, to)
+}
+
 // The first column with a bad entry, and the place of its first one.
 fn bad_row(nrows: usize, ptrs: &[u32], rows: &[u32], values: &[f64]) -> Answer
     requires { ⌜ Shaped (columnsOf nrows (now ptrs) (now rows) (now values)) ⌝ }
@@ -109,12 +146,12 @@ fn bad_row(nrows: usize, ptrs: &[u32], rows: &[u32], values: &[f64]) -> Answer
 {
     let n = column_count(ptrs);
     for j in 0..n {
+        let from = first_place(ptrs, j);
         let to = end_place(ptrs, j);
-        let p = bad_place(nrows, rows, first_place(ptrs, j), to);
-        if p < to {
+        if column_bad(nrows, rows, from, to) {
             return Answer::Refused(Refusal::BadRow {
                 column: j,
-                place: p,
+                place: bad_place(nrows, rows, from, to),
             });
         }
     }

@@ -1,12 +1,12 @@
 -- The laws of `first`: what a loop shows that looks for the first place where a test holds, and what the place found is worth. Assumes nothing.
 use mathlib.Core.Path.{_≡_, refl, sym, _∙_}
-use mathlib.Core.Bool.{Bool, true, false, cond}
+use mathlib.Core.Bool.{Bool, true, false, _||_, cond}
 use Prim.Native.Nat.{ℕ, zero, suc, _+_, _-_, _≤_, _<_}
 use native.Mathlib.Nat.{le-antisymm, le-trans, le-of-eq}
 use native.Mathlib.Omega.{arith}
 use lib.Dec.{ltb}
-use borrow.Author.Tests.{le-ltb, ltb-true, ltb-false}
-use Rattle.ground.specs.First.{firstN, first, None}
+use borrow.Author.Tests.{lt-ltb, le-ltb, ltb-true, ltb-false}
+use Rattle.ground.specs.First.{firstN, first, some, None}
 
 -- what a call that returned r says of its test x
 pub by-call : {r x t : Bool} → r ≡ x → r ≡ t → x ≡ t
@@ -102,3 +102,30 @@ module _ (bad : ℕ → Bool) where
       go : (b : Bool) → ltb lo hi ≡ b → ltb (first bad lo hi) hi ≡ false
       go true p = le-ltb _ _ (le-of-eq (sym (first-past lo hi (omega (arith, ltb-true lo hi p)) none)))
       go false p = le-ltb _ _ (le-trans (ltb-false lo hi p) (first-low lo hi))
+
+  -- A loop that looks at every place, and keeps whether the test held at one: what it has seen, or some place from k on, is the whole.
+  pub some-turn : {k hi : ℕ} (b c : Bool) {z : Bool} → k < hi → (b || some bad k hi) ≡ z → c ≡ (b || bad k) → (c || some bad (k + 1) hi) ≡ z
+  some-turn {k} {hi} b c h inv e = rw e (go b (bad k) refl) ∙ inv
+    where
+      step : (t : Bool) → bad k ≡ t → (t || some bad (k + 1) hi) ≡ some bad k hi
+      step true p = rw (first-step k hi h, p) (sym (lt-ltb k hi h))
+      step false p = rw (first-step k hi h, p)
+
+      go : (b t : Bool) → bad k ≡ t → ((b || t) || some bad (k + 1) hi) ≡ (b || some bad k hi)
+      go true t p = refl
+      go false t p = step t p
+
+  pub some-done : {k hi : ℕ} (b : Bool) {z : Bool} → hi ≤ k → (b || some bad k hi) ≡ z → b ≡ z
+  some-done {k} {hi} b {z} h inv = go b (rw (first-none k hi h, le-ltb k hi h) at inv)
+    where
+      go : (b : Bool) → (b || false) ≡ z → b ≡ z
+      go true e = e
+      go false e = e
+
+  -- a place where the test holds
+  pub some-at : (lo hi k : ℕ) → lo ≤ k → k < hi → bad k ≡ true → some bad lo hi ≡ true
+  some-at lo hi k l h e = go (some bad lo hi) refl
+    where
+      go : (b : Bool) → some bad lo hi ≡ b → some bad lo hi ≡ true
+      go true p = p
+      go false p = let z : _≡_ {A = ℕ} 0 1 = cc (past-none lo hi p k l h, e) in absurd (omega arith)
