@@ -3,7 +3,7 @@ use mathlib.Core.Bool.{Bool, not, _||_, cond}
 use mathlib.Core.List.{List, [], _∷_, _++_}
 use Prim.Native.Nat.{ℕ, _%_}
 use lib.Dec.{eqb, leb, ltb}
-use lib.ListN.{length, getD, drop, replicate}
+use lib.ListN.{length, getD, take, drop, replicate}
 use Rattle.ground.specs.First.{first}
 use Rattle.ground.specs.Gather.{gather, listOf}
 use Rattle.columns.specs.Refusals.{Told, tell, done, onPass, orElse, sooner}
@@ -82,6 +82,10 @@ blocksTold m kept elims map =
 
 abbrev pub mark : ℕ
 mark = 4_294_967_295
+
+-- the mark in the first n places, or in all where there are fewer
+unfoldable pub marked : ℕ → List ℕ → List ℕ
+marked n map = replicate (length (take n map)) mark ++ drop n map
 
 -- What a call that tells t leaves in the map. After 1 to 6 no byte changes. After a later refusal the first columns places hold the mark. On
 -- success they hold the kept local number, or kept dof plus the eliminated local number: the column's place among the claims. Places past the

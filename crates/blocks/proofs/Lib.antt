@@ -1,0 +1,5 @@
+-- The laws of specs/, for the layers above.
+pub mod WalkRules
+pub mod CallRules
+pub mod PlaceLaws
+pub mod WalkLaws
