@@ -3,3 +3,6 @@ pub mod WalkRules
 pub mod CallRules
 pub mod PlaceLaws
 pub mod WalkLaws
+pub mod SideLaws
+pub mod PartLaws
+pub mod MapLaws

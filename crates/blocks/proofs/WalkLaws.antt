@@ -15,14 +15,14 @@ use Rattle.ground.specs.First.{first}
 use Rattle.ground.specs.Fold.{folded}
 use Rattle.ground.specs.Gather.{listOf}
 use Rattle.ground.proofs.FirstLaws.{first-low, first-stop, first-turn, past-none}
-use Rattle.ground.proofs.GatherLaws.{length-listOf}
+use Rattle.ground.proofs.GatherLaws.{length-listOf, getD-listOf}
 use Rattle.columns.specs.declared.refusal.Refusal.{Refusal}
 use Rattle.columns.specs.Refusals.{Told, tell, done, refused, number, Passes, onPass, orElse}
 use Rattle.columns.proofs.RefusalLaws.{number-some, pass-done, pass-refused, passed}
 use Rattle.blocks.specs.Claims.{mark, marked, placeOf, claimBad, badClaim, walkTold, unclaimed, gapTold, Mapped}
 use Rattle.blocks.specs.Walk.{isFree, Walked, through, stopped, claimOn, walked, marks, Roomy, Room, lateTold, Tried, walkBlocks}
 use Rattle.blocks.proofs.PlaceLaws.{first-same, place-le, place-left, place-past, place-new, place-other, listOf-same, listOf-all, set-listOf, getD-front}
-use Rattle.blocks.proofs.WalkRules.{marked-all, claim-out, claim-twice, claim-free, stopped-all, free-mark, room-step, room-after, walk-length, walk-drop}
+use Rattle.blocks.proofs.WalkRules.{marked-all, claim-out, claim-twice, claim-free, stopped-all, free-mark, room-step, room-after, walk-keeps, walk-length, walk-drop}
 
 -- ---- the map after some claims
 
@@ -246,3 +246,36 @@ module _ (n : ℕ) (cs m₀ : List ℕ) where
   walk-refused r m m₁ w t e =
       let h : n ≤ length m = rw (t .size) (w .fits) in
       rw (← t .told, e, marked-all n m h, t .past, pass-refused r (listOf (placeOf cs) n) (replicate n mark))
+
+-- ---- how many claims there are
+
+marks-none : (xs : List ℕ) → ((i : ℕ) → i < length xs → getD xs i 0 ≡ mark → ⊥) → marks xs ≡ 0
+unfolding marks
+marks-none [] ne = refl
+marks-none (x ∷ xs) ne = rw (ne-eqb x mark (ne 0 (omega arith))) (marks-none xs (λ i h. ne (suc i) (omega arith)))
+
+-- claims that pass are as many as the columns: each takes one mark away, and none is left
+pub claims-count : (n : ℕ) (cs : List ℕ) → n ≤ 65_536 → Passes (walkTold n cs) → Passes (gapTold n cs) → length cs ≡ n
+unfolding gapTold state
+claims-count n cs few p q =
+    let m₀ : List ℕ = replicate n 0 in
+    let w : Roomy n (length m₀) = record { few = few; fits = le-of-eq (sym (length-replicate n 0)) } in
+    let o = walked n (through 0 (marked n m₀)) cs in
+    let b = whole n m₀ w cs in
+    let z : Passes (o .told) = ap (λ (t : Told). t .number) (b .says) ∙ p in
+    let room = walk-keeps n (Room n) (λ next map c h f r. room-step c r h (free-mark map c f)) (through 0 (marked n m₀)) cs (λ _. start-room n m₀ w) z in
+    let f = b .full z in
+    let e = passed (ltb (unclaimed n cs) n) 8 _ done q .0 in
+    let t : take n (o .map) ≡ listOf (placeOf cs) n =
+    ap (take n) (f .0 ∙ state-full n (drop n m₀) cs e) ∙ take-at (listOf (placeOf cs) n) (drop n m₀) n (length-listOf (placeOf cs) 0 n) in
+    let k : marks (take n (o .map)) ≡ 0 =
+    (rw t (marks-none (listOf (placeOf cs) n) (λ i h g.
+    let l : i < n = rw (length-listOf (placeOf cs) 0 n) at h in
+    let v = getD-listOf (placeOf cs) 0 n i l in
+    let u : placeOf cs i < length cs = leb-false _ _ (past-none _ 0 n e i (omega arith) l) in
+    let s = room .free in
+    let y = f .1 in
+    omega arith))) in
+    let s = room .free in
+    let y = f .1 in
+    omega arith
