@@ -6,3 +6,4 @@ pub mod WalkLaws
 pub mod SideLaws
 pub mod PartLaws
 pub mod MapLaws
+pub mod Determined
