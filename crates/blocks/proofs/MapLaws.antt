@@ -1,8 +1,8 @@
 -- What the column map holds after a call: nothing new after 1 to 6, marks after a later refusal, and on success at each column its place among the
 -- kept columns and then the eliminated ones. Assumes nothing.
-use mathlib.Core.Path.{_≡_, refl, sym, ap, _∙_, subst}
+use mathlib.Core.Path.{_≡_, refl, sym, ap, _∙_}
 use mathlib.Core.Bool.{Bool, true, false, cond}
-use mathlib.Core.List.{List, [], _∷_, _++_}
+use mathlib.Core.List.{List, _++_}
 use Prim.Native.Nat.{ℕ, _+_, _-_, _≤_, _<_}
 use native.Mathlib.Omega.{arith}
 use lib.Dec.{eqb}
@@ -13,13 +13,14 @@ use Rattle.ground.specs.Gather.{listOf}
 use Rattle.ground.proofs.GatherLaws.{length-listOf}
 use Rattle.columns.specs.Refusals.{Told, Passes, onPass}
 use Rattle.columns.specs.Columns.{Columns, columnCount}
+use Rattle.columns.proofs.RefusalLaws.{both-pass}
 use Rattle.blocks.specs.Sides.{cols, offsetOf, sideDof, HasAt, sideOf}
-use Rattle.blocks.specs.Claims.{mark, marked, claims, placeOf, earlyTold, mapLeft, Parted, BlocksKeep}
+use Rattle.blocks.specs.Claims.{mark, marked, claims, placeOf, earlyTold, blocksTold, mapLeft, Mapped, checkBlocks, Parted, BlocksKeep}
 use Rattle.blocks.proofs.PlaceLaws.{place-at, getD-front}
-use Rattle.blocks.proofs.SideLaws.{cols-length, LocalOf, cols-from}
+use Rattle.blocks.proofs.SideLaws.{cols-length, cols-from}
 use Rattle.blocks.proofs.WalkRules.{marked-all}
 use Rattle.blocks.proofs.CallRules.{early-passes}
-use Rattle.blocks.proofs.PartLaws.{placeIn, parted-cols, parted-place, parted-claimed, parted-dofs}
+use Rattle.blocks.proofs.PartLaws.{placeIn, parted-cols, parted-place, parted-claimed, parted-dofs, passes-parted}
 
 -- ---- what a call that tells t leaves
 
@@ -140,3 +141,29 @@ module _ (m : Columns) (kept elims map : List ℕ) (g : BlocksKeep m kept elims 
 
   pub keeps-below : (c : ℕ) → c < columnCount m → getD (mapOn (columnCount m) kept elims (drop (columnCount m) map)) c 0 < columnCount m
   keeps-below c h = rw keeps-dofs at (map-below (columnCount m) kept elims (drop (columnCount m) map) (g .parted) c h)
+
+-- ---- what a call of `check_blocks` gives the call that goes on from it
+
+module _ (m : Columns) (kept elims map : List ℕ) where
+  pub passes-early : Passes (blocksTold m kept elims map) → Passes (earlyTold m kept elims map)
+  unfolding blocksTold
+  passes-early p = both-pass (earlyTold m kept elims map) _ p .0
+
+  -- its answer told t and it left map′
+  module _ (t : Told) (map′ : List ℕ) (e : record { told = t; map = map′ } ≡ checkBlocks m kept elims map) where
+    pub blocks-told : t ≡ blocksTold m kept elims map
+    unfolding checkBlocks
+    blocks-told = ap (λ (w : Mapped). w .told) e
+
+    pub blocks-map : map′ ≡ mapLeft (blocksTold m kept elims map) m kept elims map
+    unfolding checkBlocks
+    blocks-map = ap (λ (w : Mapped). w .map) e
+
+    -- it passed
+    pub blocks-keep : Passes t → BlocksKeep m kept elims map
+    blocks-keep p = passes-parted m kept elims map (rw blocks-told at p)
+
+    pub blocks-mapped : Passes t → map′ ≡ mapOn (columnCount m) kept elims (drop (columnCount m) map)
+    blocks-mapped p =
+        let q : Passes (blocksTold m kept elims map) = rw blocks-told at p in
+        blocks-map ∙ left-done m kept elims map (passes-early q) (blocksTold m kept elims map) q
