@@ -1,2 +1,5 @@
 pub mod Sides
 pub mod Claims
+pub mod Damping
+pub mod Lookups
+pub mod Access

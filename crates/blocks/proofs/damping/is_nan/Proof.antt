@@ -1,0 +1,9 @@
+use Rattle.blocks.proofs.DampingRules.{damping}
+use Rattle.blocks.proofs.damping.is_nan.Statement.{statement}
+use Rattle.blocks.proofs.damping.is_nan.Tie as tie
+
+returns : tie.Need-returns
+returns c = search damping
+
+pub is-nan-spec : {M : Type 1} → statement M
+is-nan-spec = tie.close (tie.spec returns)
