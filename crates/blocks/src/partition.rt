@@ -29,7 +29,7 @@ pub enum Within {
 }
 
 // How many blocks are asked: none of a list past the limit.
-pub fn asked_blocks(side: &[u32]) -> usize
+pub(crate) fn asked_blocks(side: &[u32]) -> usize
     ensures { λ r. ⌜ r ≡ asked (now (side .entry)) ⌝ }
 {
     let n = side.len() / 2;
@@ -49,7 +49,7 @@ fn first_column(side: &[u32], b: usize) -> usize
 }
 
 // Block b's dof.
-pub fn block_dof(side: &[u32], b: usize) -> usize
+pub(crate) fn block_dof(side: &[u32], b: usize) -> usize
     requires { ⌜ BlockThere (length (now side)) b ⌝ }
     ensures { λ r. ⌜ r ≡ dofOf (now (side .entry)) b ⌝ }
     ensures { λ r. ⌜ r ≤ 4_294_967_295 ⌝ }
@@ -84,7 +84,7 @@ fn holding_block(side: &[u32], column: usize) -> usize
 }
 
 // The dofs before block b. There are few enough blocks that their sum fits.
-pub fn dofs_before(side: &[u32], b: usize) -> usize
+fn dofs_before(side: &[u32], b: usize) -> usize
     requires { ⌜ BlocksThere (length (now side)) b ⌝ }
     ensures { λ r. ⌜ r ≡ offsetOf (now (side .entry)) b ⌝ }
     ensures { λ r. ⌜ r ≤ b * 4_294_967_295 ⌝ }

@@ -1,3 +1,4 @@
+-- `blocks::partition::dofs_before` meets its contract. Assumes nothing.
 use mathlib.Core.Path.{_≡_}
 use Prim.Native.Nat.{_-_, _*_, _≤_}
 use Rattle.blocks.specs.Sides.{offsetOf}
@@ -12,26 +13,8 @@ Inv-loop side b sum₀ k₀ sum k =
 abbrev μ-loop : tie.MeasureT-loop
 μ-loop side b sum₀ k₀ sum k = b - k
 
-loop-holds : tie.Need-loop-holds Inv-loop μ-loop
-loop-holds c = search lookups
-
-block-dof-requires : tie.Need-block-dof-requires Inv-loop μ-loop
-block-dof-requires c κs = search lookups
-
-add-sum : tie.Need-add-sum Inv-loop μ-loop
-add-sum c = search lookups
-
-add-k : tie.Need-add-k Inv-loop μ-loop
-add-k c = search lookups
-
-loop-less : tie.Need-loop-less Inv-loop μ-loop
-loop-less c = search lookups
-
-loop-again : tie.Need-loop-again Inv-loop μ-loop
-loop-again c = search lookups
-
-returns : tie.Need-returns Inv-loop μ-loop
-returns c = search lookups
-
 pub dofs-before-spec : {M : Type 1} → statement M
-dofs-before-spec = tie.close (tie.spec Inv-loop μ-loop loop-holds block-dof-requires add-sum add-k loop-less loop-again returns)
+dofs-before-spec =
+    tie.close (tie.spec
+    Inv-loop μ-loop (λ c. search lookups) (λ c κs. search lookups) (λ c. search lookups) (λ c. search lookups) (λ c. search lookups)
+    (λ c. search lookups) (λ c. search lookups))

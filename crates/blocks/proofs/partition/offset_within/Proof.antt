@@ -1,21 +1,10 @@
+-- `blocks::partition::offset_within` meets its contract. Assumes nothing.
 use Prim.Native.Nat.{_+_}
 use native.Mathlib.Omega.{arith}
 use Rattle.blocks.proofs.LookupRules.{held-low, held-high}
 use Rattle.blocks.proofs.LookupRules.{lookups}
 use Rattle.blocks.proofs.partition.offset_within.Statement.{statement}
 use Rattle.blocks.proofs.partition.offset_within.Tie as tie
-
-add-wide : tie.Need-add-wide
-add-wide c = search lookups
-
-mul-wide : tie.Need-mul-wide
-mul-wide c = search lookups
-
-shared-slice-read-wide : tie.Need-shared-slice-read-wide
-shared-slice-read-wide c = search lookups
-
-wide-requires : tie.Need-wide-requires
-wide-requires c κs = search lookups
 
 sub-result : tie.Need-sub-result
 sub-result c =
@@ -28,4 +17,6 @@ returns c =
     (rw (c .wide .ensures .0), omega (arith, held-high _ _ _ (s .pre .held), c .wide .ensures .0, c .before .before .shared-slice-known .given (s .args .b + s .args .b + 1)))
 
 pub offset-within-spec : {M : Type 1} → statement M
-offset-within-spec = tie.close (tie.spec add-wide mul-wide shared-slice-read-wide wide-requires sub-result returns)
+offset-within-spec =
+    tie.close (tie.spec
+    (λ c. search lookups) (λ c. search lookups) (λ c. search lookups) (λ c κs. search lookups) sub-result returns)
