@@ -6,4 +6,5 @@ pub mod LookupRules
 pub mod LookupLaws
 pub mod AccessRules
 pub mod AccessLaws
+pub mod ValueRules
 pub mod DeterminedParts

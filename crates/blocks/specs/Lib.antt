@@ -3,3 +3,4 @@ pub mod Claims
 pub mod Damping
 pub mod Lookups
 pub mod Access
+pub mod BlockValues

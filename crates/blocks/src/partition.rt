@@ -40,7 +40,7 @@ pub(crate) fn asked_blocks(side: &[u32]) -> usize
 }
 
 // Block b's first column.
-fn first_column(side: &[u32], b: usize) -> usize
+pub(crate) fn first_column(side: &[u32], b: usize) -> usize
     requires { ⌜ BlockThere (length (now side)) b ⌝ }
     ensures { λ r. ⌜ r ≡ firstOf (now (side .entry)) b ⌝ }
     ensures { λ r. ⌜ r ≤ 4_294_967_295 ⌝ }
