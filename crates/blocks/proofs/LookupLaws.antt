@@ -19,7 +19,7 @@ use Rattle.blocks.specs.declared.partition.Number.the-variants.{Is, Noth
 use Rattle.blocks.specs.declared.partition.Within.{Within}
 use Rattle.blocks.specs.declared.partition.Within.the-variants as within
 use Rattle.blocks.specs.Lookups.{asked, holds, holder, inBlock, localIn, withinIn}
-use Rattle.blocks.proofs.SideLaws.{Located, located, column-at, length-cols, block-ends}
+use Rattle.blocks.proofs.SideLaws.{cols-length, offset-next, cols-at, LocalOf, cols-from}
 use Rattle.blocks.proofs.LookupRules.{held-low, held-high}
 
 clash : true ≡ false → ⊥
@@ -44,13 +44,12 @@ module _ (side : List ℕ) (column : ℕ) (few : tooMany side ≡ false) where
   asked-whole = rw few
 
   -- the block of a place where the column stands holds it
-  holds-at : (p : ℕ) (r : Located side (blockCount side) p) → getD (cols side) p 0 ≡ column
+  holds-at : (p : ℕ) (r : LocalOf side p) → getD (cols side) p 0 ≡ column
       → (firstOf side (r .block) + r .offset ≡ column) × (holds side column (r .block) ≡ true)
   unfolding holds
   holds-at p r e =
-      let q : firstOf side (r .block) + r .offset ≡ column =
-      sym (column-at side (blockCount side) (r .block) (r .offset) (r .among) (r .inside)) ∙ ap (λ (i : ℕ). getD (cols side) i 0) (sym (r .there)) ∙ e in
-      let i : r .offset < dofOf side (r .block) = r .inside in
+      let q : firstOf side (r .block) + r .offset ≡ column = sym (r .has .is) ∙ e in
+      let i : r .offset < dofOf side (r .block) = r .has .offset in
       (q, rw (le-leb (firstOf side (r .block)) column (omega arith), lt-ltb column (firstOf side (r .block) + dofOf side (r .block)) (omega arith)))
 
   module _ (found : holder side column < asked side) where
@@ -66,32 +65,32 @@ module _ (side : List ℕ) (column : ℕ) (few : tooMany side ≡ false) where
     -- the local number's place is the column's
     pub local-column : getD (cols side) (offsetOf side (holder side column) + inBlock side column) 0 ≡ column
     local-column =
-        column-at side (blockCount side) (holder side column) (inBlock side column) among inside
+        cols-at side (holder side column) (inBlock side column) among inside
         ∙ omega (arith, held-low side column (holder side column) held)
 
     -- and the first such
     pub local-first : (p : ℕ) → p < offsetOf side (holder side column) + inBlock side column → getD (cols side) p 0 ≡ column → ⊥
     local-first p l e =
-        let n : p < offsetOf side (blockCount side) = omega (arith, inside, block-ends side (holder side column) (blockCount side) among) in
-        let r = located side (blockCount side) p n in
+        let n : p < offsetOf side (blockCount side) = omega (arith, inside, offset-next side (holder side column) (blockCount side) among) in
+        let r = cols-from side p n in
         let q = holds-at p r e in
         go r (q .0) (decLt (r .block) (holder side column)) (decLt (holder side column) (r .block)) (q .1)
       where
-        go : (r : Located side (blockCount side) p) → firstOf side (r .block) + r .offset ≡ column → Dec (r .block < holder side column)
+        go : (r : LocalOf side p) → firstOf side (r .block) + r .offset ≡ column → Dec (r .block < holder side column)
             → Dec (holder side column < r .block) → holds side column (r .block) ≡ true → ⊥
         go r q (yes a) d h = clash (sym h ∙ first-before (holds side column) 0 (asked side) (r .block) (omega arith) a)
-        go r q (no a) (yes d) h = omega (arith, inside, r .there, block-ends side (holder side column) (r .block) d)
+        go r q (no a) (yes d) h = omega (arith, inside, r .is, offset-next side (holder side column) (r .block) d)
         go r q (no a) (no d) h =
             let t : r .block ≡ holder side column = omega arith in
             let u : firstOf side (holder side column) + r .offset ≡ column = rw t at q in
-            let v : p ≡ offsetOf side (holder side column) + r .offset = rw t at (r .there) in
+            let v : p ≡ offsetOf side (holder side column) + r .offset = rw t at (r .is) in
             omega arith
 
     pub local-place : placeOf (cols side) column ≡ offsetOf side (holder side column) + inBlock side column
     unfolding placeOf
     local-place =
         first-is (λ i. eqb (getD (cols side) i 0) column) 0 (length (cols side)) (offsetOf side (holder side column) + inBlock side column) (omega arith)
-        (rw (length-cols side) (omega (arith, inside, block-ends side (holder side column) (blockCount side) among)))
+        (rw (cols-length side) (omega (arith, inside, offset-next side (holder side column) (blockCount side) among)))
         (eq-eqb _ _ local-column) (λ p _ l. ne-eqb _ _ (local-first p l))
 
   -- no block holds a column exactly where it stands nowhere in the list
@@ -99,10 +98,10 @@ module _ (side : List ℕ) (column : ℕ) (few : tooMany side ≡ false) where
   unfolding placeOf
   none-place none =
       first-past (λ i. eqb (getD (cols side) i 0) column) 0 (length (cols side)) (omega arith) (λ p _ l.
-      ne-eqb _ _ (λ e. at p (located side (blockCount side) p (rw (length-cols side) at l)) e))
+      ne-eqb _ _ (λ e. at p (cols-from side p (rw (cols-length side) at l)) e))
     where
-      at : (p : ℕ) → Located side (blockCount side) p → getD (cols side) p 0 ≡ column → ⊥
-      at p r e = clash (sym (holds-at p r e .1) ∙ none (r .block) (omega arith) (r .among))
+      at : (p : ℕ) → LocalOf side p → getD (cols side) p 0 ≡ column → ⊥
+      at p r e = clash (sym (holds-at p r e .1) ∙ none (r .block) (omega arith) (r .has .block))
 
   -- what a lookup answers, said of the list alone
   pub local-is : localIn side column ≡ cond (ltb (placeOf (cols side) column) (length (cols side))) (Is (placeOf (cols side) column)) Nothing
@@ -114,7 +113,7 @@ module _ (side : List ℕ) (column : ℕ) (few : tooMany side ≡ false) where
           ≡ cond (ltb (placeOf (cols side) column) (length (cols side))) (Is (placeOf (cols side) column)) Nothing
       go true e =
           let f = ltb-true _ _ e in
-          rw (local-place f, length-cols side, lt-ltb (offsetOf side (holder side column) + inBlock side column) (sideDof side) (omega (arith, inside f, block-ends side (holder side column) (blockCount side) (among f))))
+          rw (local-place f, cols-length side, lt-ltb (offsetOf side (holder side column) + inBlock side column) (sideDof side) (omega (arith, inside f, offset-next side (holder side column) (blockCount side) (among f))))
       go false e =
           let n : None (holds side column) 0 (blockCount side) = rw asked-whole at (past-none (holds side column) 0 (asked side) e) in
           rw (none-place n, le-ltb (length (cols side)) (length (cols side)) (omega arith))

@@ -1,75 +1,123 @@
--- A side's columns in local order: how many come before a block, where a block's columns stand, and that every place is one of theirs.
--- Assumes nothing.
-use mathlib.Core.Path.{_≡_, refl, sym, ap, _∙_}
-use mathlib.Core.List.{List, _++_}
+-- A side's columns in local order, whatever its numbers are: block b's column at offset i has the local number of the earlier dofs plus i, and each
+-- local number is of just one such column. Assumes nothing.
+use mathlib.Core.Path.{_≡_, refl, sym, ap, _∙_, subst}
+use mathlib.Core.Bool.{Bool, true, false, cond}
+use mathlib.Core.List.{List, [], _∷_, _++_}
 use Prim.Native.Nat.{ℕ, zero, suc, _+_, _-_, _≤_, _<_}
-use native.Mathlib.Numerals.{add-one}
-use native.Mathlib.Omega.{arith}
 use native.Mathlib.Decide.{decLt}
+use native.Mathlib.Omega.{arith}
 use lib.ListN.{length, getD, length-append, List·getD-append}
 use lib.Seq.{getD-append-add}
 use Rattle.ground.specs.Gather.{gather, listOf}
-use Rattle.ground.proofs.GatherLaws.{gather-none, gather-first, gather-last, gather-split, length-listOf, getD-listOf}
-use Rattle.blocks.specs.Sides.{blockCount, firstOf, dofOf, blockColumns, cols, offsetOf, sideDof}
-
--- place p of a side's columns is that at `offset` of block `block`, one of the first n
-pub record Located (side : List ℕ) (n p : ℕ) : Type 0 where
-  pub block : ℕ
-  pub offset : ℕ
-  pub among : block < n
-  pub inside : offset < dofOf side block
-  pub there : p ≡ offsetOf side block + offset
+use Rattle.ground.proofs.GatherLaws.{gather-none, gather-last, length-listOf, getD-listOf}
+use Rattle.blocks.specs.Sides.{blockCount, firstOf, dofOf, blockColumns, cols, offsetOf, sideDof, HasAt, sideOf}
+use Rattle.blocks.proofs.PlaceLaws.{gather-less, gather-at, Handed, gather-from}
 
 module _ (side : List ℕ) where
-  pub length-block : (b : ℕ) → length (blockColumns side b) ≡ dofOf side b
+  pub block-length : (b : ℕ) → length (blockColumns side b) ≡ dofOf side b
   unfolding blockColumns
-  length-block b = length-listOf (λ i. firstOf side b + i) 0 (dofOf side b)
+  block-length b = length-listOf (λ i. firstOf side b + i) 0 (dofOf side b)
 
   pub block-at : (b i : ℕ) → i < dofOf side b → getD (blockColumns side b) i 0 ≡ firstOf side b + i
   unfolding blockColumns
   block-at b i h = getD-listOf (λ i. firstOf side b + i) 0 (dofOf side b) i h
 
-  pub length-before : (b : ℕ) → length (gather (blockColumns side) 0 b) ≡ offsetOf side b
+  -- the blocks before b have as many columns as their dofs
+  pub offset-length : (b : ℕ) → length (gather (blockColumns side) 0 b) ≡ offsetOf side b
   unfolding offsetOf
-  length-before zero = ap length (gather-none (blockColumns side) 0 0 (omega arith))
-  length-before (suc b) =
-      ap (λ (n : ℕ). length (gather (blockColumns side) 0 n)) (sym (add-one b))
+  offset-length zero = ap length (gather-none (blockColumns side) 0 0 (omega arith))
+  offset-length (suc b) =
+      let e : b + 1 ≡ suc b = omega arith in
+      ap (λ (k : ℕ). length (gather (blockColumns side) 0 k)) (sym e)
       ∙ ap length (gather-last (blockColumns side) 0 b (omega arith))
       ∙ length-append (gather (blockColumns side) 0 b) (blockColumns side b)
-      ∙ rw (length-before b, length-block b)
+      ∙ (rw (offset-length b, block-length b))
 
-  -- a side has as many columns as its dof
-  pub length-cols : length (cols side) ≡ sideDof side
-  length-cols = length-before (blockCount side)
+  pub cols-length : length (cols side) ≡ sideDof side
+  cols-length = offset-length (blockCount side)
 
-  pub column-at : (n b i : ℕ) → b < n → i < dofOf side b → getD (gather (blockColumns side) 0 n) (offsetOf side b + i) 0 ≡ firstOf side b + i
-  column-at n b i l h =
-      ap (λ (xs : List ℕ). getD xs (offsetOf side b + i) 0) (gather-split (blockColumns side) 0 b n (omega arith) (omega arith))
-      ∙ ap (λ (k : ℕ). getD (gather (blockColumns side) 0 b ++ gather (blockColumns side) b n) (k + i) 0) (sym (length-before b))
-      ∙ getD-append-add (gather (blockColumns side) 0 b) (gather (blockColumns side) b n) i 0
-      ∙ ap (λ (xs : List ℕ). getD xs i 0) (gather-first (blockColumns side) b n l)
-      ∙ List·getD-append (blockColumns side b) (gather (blockColumns side) (b + 1) n) 0 i (rw (length-block b) h)
-      ∙ block-at b i h
+  -- a block ends before a later one begins
+  pub offset-next : (a b : ℕ) → a < b → offsetOf side a + dofOf side a ≤ offsetOf side b
+  offset-next a b h = rw (← offset-length a, ← block-length a, ← offset-length b) (gather-less 0 (blockColumns side) a b h)
 
-  -- the dofs before a block do not fall
-  pub offset-rise : (b n : ℕ) → b ≤ n → offsetOf side b ≤ offsetOf side n
-  unfolding offsetOf
-  offset-rise b zero l = let e : b ≡ 0 = omega arith in rw e (omega arith)
-  offset-rise b (suc n) l = go (decLt b (suc n)) (offset-rise b n)
-    where
-      go : Dec (b < suc n) → (b ≤ n → offsetOf side b ≤ offsetOf side n) → offsetOf side b ≤ offsetOf side n + dofOf side n
-      go (yes h) ih = omega (arith, ih (omega arith))
-      go (no h) ih = let e : b ≡ suc n = omega arith in rw e (omega arith)
+  -- the local number of a column
+  pub cols-at : (b i : ℕ) → b < blockCount side → i < dofOf side b → getD (cols side) (offsetOf side b + i) 0 ≡ firstOf side b + i
+  cols-at b i h l =
+      rw (← offset-length b) (gather-at 0 (blockColumns side) b (blockCount side) i h (rw (block-length b) l)) ∙ block-at b i l
 
-  pub block-ends : (b n : ℕ) → b < n → offsetOf side b + dofOf side b ≤ offsetOf side n
-  unfolding offsetOf
-  block-ends b n l = offset-rise (suc b) n l
+  pub local-low : (b i : ℕ) → b < blockCount side → i < dofOf side b → offsetOf side b + i < sideDof side
+  local-low b i h l = omega (arith, offset-next b (blockCount side) h)
 
-  pub located : (n p : ℕ) → p < offsetOf side n → Located side n p
-  unfolding offsetOf
-  located zero p h = absurd (omega arith)
-  located (suc n) p h = go (decLt p (offsetOf side n)) (located n p)
-    where
-      go : Dec (p < offsetOf side n) → (p < offsetOf side n → Located side n p) → Located side (suc n) p
-      go (yes l) ih = let r = ih l in record { block = r .block; offset = r .offset; among = omega (arith, r .among); inside = r .inside; there = r .there }
-      go (no l) ih = record { block = n; offset = p - offsetOf side n; among = omega arith; inside = omega arith; there = omega arith }
+-- the block and the offset of a local number
+pub record LocalOf (side : List ℕ) (l : ℕ) : Type 0 where
+  pub block : ℕ
+  pub offset : ℕ
+  pub has : HasAt side block offset (getD (cols side) l 0)
+  pub is : l ≡ offsetOf side block + offset
+
+pub cols-from : (side : List ℕ) (l : ℕ) → l < sideDof side → LocalOf side l
+cols-from side l h =
+    let r = gather-from (blockColumns side) (blockCount side) l (rw (cols-length side) h) in
+    let i : r .offset < dofOf side (r .block) = rw (block-length side (r .block)) at (r .inside) in
+    let e : l ≡ offsetOf side (r .block) + r .offset = rw (offset-length side (r .block)) at (r .is) in
+    record {
+      block = r .block;
+      offset = r .offset;
+      has = record { block = r .below; offset = i; is = ap (λ (k : ℕ). getD (cols side) k 0) e ∙ cols-at side (r .block) (r .offset) (r .below) i };
+      is = e;
+    }
+
+-- and there is no other
+pub local-once : (side : List ℕ) (a b i j : ℕ) → i < dofOf side a → j < dofOf side b → offsetOf side a + i ≡ offsetOf side b + j → (a ≡ b) × (i ≡ j)
+local-once side a b i j h l e = go (decLt a b) (decLt b a)
+  where
+    go : Dec (a < b) → Dec (b < a) → (a ≡ b) × (i ≡ j)
+    go (yes p) q = let g = offset-next side a b p in absurd (omega arith)
+    go (no p) (yes q) = let g = offset-next side b a q in absurd (omega arith)
+    go (no p) (no q) =
+        let s : a ≡ b = omega arith in
+        let z : offsetOf side a ≡ offsetOf side b = ap (λ (k : ℕ). offsetOf side k) s in
+        (s, omega arith)
+
+-- a column has one offset in a block
+pub offset-once : (side : List ℕ) (a b i j c : ℕ) → HasAt side a i c → HasAt side b j c → a ≡ b → i ≡ j
+offset-once side a b i j c h g e =
+    let z : firstOf side a ≡ firstOf side b = ap (λ (k : ℕ). firstOf side k) e in
+    let p = h .is in
+    let q = g .is in
+    omega arith
+
+-- ---- two lists, one after the other: e says in which of them
+
+abbrev pub pick : Bool → List ℕ → List ℕ → List ℕ
+pick e xs ys = cond e ys xs
+
+abbrev pub baseOf : Bool → List ℕ → ℕ
+baseOf e xs = cond e (length xs) 0
+
+pub join-at : (xs ys : List ℕ) (e : Bool) (k : ℕ) → k < length (pick e xs ys) → getD (xs ++ ys) (baseOf e xs + k) 0 ≡ getD (pick e xs ys) k 0
+join-at xs ys true k h = getD-append-add xs ys k 0
+join-at xs ys false k h = let z : 0 + k ≡ k = omega arith in rw z (List·getD-append xs ys 0 k h)
+
+pub join-low : (xs ys : List ℕ) (e : Bool) (k : ℕ) → k < length (pick e xs ys) → baseOf e xs + k < length (xs ++ ys)
+join-low xs ys true k h = let g = length-append xs ys in omega arith
+join-low xs ys false k h = let g = length-append xs ys in omega arith
+
+pub record Joined (xs ys : List ℕ) (k : ℕ) : Type 0 where
+  pub second : Bool
+  pub place : ℕ
+  pub below : place < length (pick second xs ys)
+  pub is : k ≡ baseOf second xs + place
+
+pub join-from : (xs ys : List ℕ) (k : ℕ) → k < length (xs ++ ys) → Joined xs ys k
+join-from xs ys k h = go (decLt k (length xs))
+  where
+    go : Dec (k < length xs) → Joined xs ys k
+    go (yes p) = record { second = false; place = k; below = p; is = omega arith }
+    go (no p) = let g = length-append xs ys in record { second = true; place = k - length xs; below = omega arith; is = omega arith }
+
+pub join-once : (xs ys : List ℕ) (e f : Bool) (k l : ℕ) → k < length (pick e xs ys) → l < length (pick f xs ys) → baseOf e xs + k ≡ baseOf f xs + l → (e ≡ f) × (k ≡ l)
+join-once xs ys true true k l h g q = (refl, omega arith)
+join-once xs ys true false k l h g q = absurd (omega arith)
+join-once xs ys false true k l h g q = absurd (omega arith)
+join-once xs ys false false k l h g q = (refl, omega arith)

@@ -1,15 +1,16 @@
 -- Refusals 1, 2, 4 and 6 to 9, over columns and both sides, and the column map. Assumes nothing.
+use mathlib.Core.Path.{_≡_}
 use mathlib.Core.Bool.{Bool, not, _||_, cond}
 use mathlib.Core.List.{List, [], _∷_, _++_}
-use Prim.Native.Nat.{ℕ, _%_}
+use Prim.Native.Nat.{ℕ, _%_, _≤_, _<_}
 use lib.Dec.{eqb, leb, ltb}
-use lib.ListN.{length, getD, drop, replicate}
+use lib.ListN.{length, getD, take, drop, replicate}
 use Rattle.ground.specs.First.{first}
 use Rattle.ground.specs.Gather.{gather, listOf}
 use Rattle.columns.specs.Refusals.{Told, tell, done, onPass, orElse, sooner}
 use Rattle.columns.specs.Lengths.{noRoom}
-use Rattle.columns.specs.Columns.{Columns, columnCount, checked}
-use Rattle.blocks.specs.Sides.{blockCount, firstOf, blockColumns}
+use Rattle.columns.specs.Columns.{Columns, columnCount, checked, Keeps}
+use Rattle.blocks.specs.Sides.{blockCount, firstOf, blockColumns, HasAt, sideOf}
 
 -- ---- the block lists
 
@@ -83,6 +84,10 @@ blocksTold m kept elims map =
 abbrev pub mark : ℕ
 mark = 4_294_967_295
 
+-- the mark in the first n places, or in all where there are fewer
+unfoldable pub marked : ℕ → List ℕ → List ℕ
+marked n map = replicate (length (take n map)) mark ++ drop n map
+
 -- What a call that tells t leaves in the map. After 1 to 6 no byte changes. After a later refusal the first columns places hold the mark. On
 -- success they hold the kept local number, or kept dof plus the eliminated local number: the column's place among the claims. Places past the
 -- columns hold what they held.
@@ -102,3 +107,32 @@ checkBlocks m kept elims map = record {
   told = blocksTold m kept elims map;
   map = mapLeft (blocksTold m kept elims map) m kept elims map;
 }
+
+-- ---- the rules that the check holds blocks to
+
+-- within the limit, whole pairs, not empty; each block starts below the n columns, and each column of it exists
+pub record SideRight (n : ℕ) (side : List ℕ) : Type 0 where
+  pub few : blockCount side ≤ 65_536
+  pub whole : length side % 2 ≡ 0
+  pub some : 0 < blockCount side
+  pub starts : (b : ℕ) → b < blockCount side → firstOf side b < n
+  pub inside : (b i c : ℕ) → HasAt side b i c → c < n
+
+-- a block that has column c
+pub record Claimed (kept elims : List ℕ) (c : ℕ) : Type 0 where
+  pub eliminated : Bool
+  pub block : ℕ
+  pub offset : ℕ
+  pub there : HasAt (sideOf eliminated kept elims) block offset c
+
+-- both sides are so, and each column belongs to exactly one block
+pub record Parted (n : ℕ) (kept elims : List ℕ) : Type 0 where
+  pub right : (e : Bool) → SideRight n (sideOf e kept elims)
+  pub claimed : (c : ℕ) → c < n → Claimed kept elims c
+  pub once : (e f : Bool) (a b i j c : ℕ) → HasAt (sideOf e kept elims) a i c → HasAt (sideOf f kept elims) b j c → (e ≡ f) × (a ≡ b)
+
+-- columns and blocks keep the rules, and the map has room
+pub record BlocksKeep (m : Columns) (kept elims map : List ℕ) : Type 0 where
+  pub keeps : Keeps m
+  pub parted : Parted (columnCount m) kept elims
+  pub room : columnCount m ≤ length map

@@ -1,5 +1,6 @@
 pub mod Sides
 pub mod Claims
+pub mod Walk
 pub mod Damping
 pub mod Lookups
 pub mod Access

@@ -1,6 +1,8 @@
 -- A side's blocks, in the caller's order, and its columns in local order. Assumes nothing.
+use mathlib.Core.Path.{_≡_}
+use mathlib.Core.Bool.{Bool, cond}
 use mathlib.Core.List.{List}
-use Prim.Native.Nat.{ℕ, zero, suc, _+_, _/_}
+use Prim.Native.Nat.{ℕ, zero, suc, _+_, _/_, _<_}
 use lib.ListN.{length, getD}
 use Rattle.ground.specs.Gather.{gather, listOf}
 
@@ -30,3 +32,13 @@ offsetOf side (suc b) = offsetOf side b + dofOf side b
 -- the side's dof
 abbrev pub sideDof : List ℕ → ℕ
 sideDof side = offsetOf side (blockCount side)
+
+-- block b of the side has column c, at offset i
+pub record HasAt (side : List ℕ) (b i c : ℕ) : Type 0 where
+  pub block : b < blockCount side
+  pub offset : i < dofOf side b
+  pub is : c ≡ firstOf side b + i
+
+-- the kept side, or the eliminated one
+abbrev pub sideOf : Bool → List ℕ → List ℕ → List ℕ
+sideOf eliminated kept elims = cond eliminated elims kept
