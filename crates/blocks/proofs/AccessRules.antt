@@ -53,7 +53,7 @@ pub squares-all : (elims : List ℕ) (b most k s : ℕ) → k ≤ b → b ≤ k 
 unfolding upTo
 squares-all elims b most k s l h m e = let q : k ≡ b = le-antisymm l h in rw (← q, ← e, le-leb s most m)
 
-up-to-none : (most sum : ℕ) (a : Number) → a ≡ upTo most sum → a ≡ Nothing → most < sum
+pub up-to-none : (most sum : ℕ) (a : Number) → a ≡ upTo most sum → a ≡ Nothing → most < sum
 unfolding upTo
 up-to-none most sum a e p = go (leb sum most) refl (sym p ∙ e)
   where
@@ -61,7 +61,7 @@ up-to-none most sum a e p = go (leb sum most) refl (sym p ∙ e)
     go true t q = let z : _≡_ {A = ℕ} 0 1 = cc in absurd (omega arith)
     go false t q = leb-false sum most t
 
-up-to-some : (most sum s : ℕ) (a : Number) → a ≡ upTo most sum → a ≡ Is s → (s ≡ sum) × (sum ≤ most)
+pub up-to-some : (most sum s : ℕ) (a : Number) → a ≡ upTo most sum → a ≡ Is s → (s ≡ sum) × (sum ≤ most)
 unfolding upTo
 up-to-some most sum s a e p = go (leb sum most) refl (sym p ∙ e)
   where

@@ -13,4 +13,5 @@ pub mod LookupLaws
 pub mod AccessRules
 pub mod AccessLaws
 pub mod ValueRules
+pub mod ValueCalls
 pub mod DeterminedParts

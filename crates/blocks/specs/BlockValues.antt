@@ -2,15 +2,18 @@
 use mathlib.Core.Path.{_≡_}
 use mathlib.Core.List.{List, [], _∷_}
 use Prim.Native.Nat.{ℕ, _+_, _*_, _≤_, _<_}
-use lib.ListN.{getD, set}
+use lib.ListN.{length, getD, set}
 use lib.Ieee.{Float, nan, binary64, add}
 use Rattle.ground.specs.Range.{range}
 use Rattle.ground.specs.Gather.{gather}
+use Rattle.columns.specs.Refusals.{Told, done, onPass, orElse}
+use Rattle.columns.specs.Lengths.{wrongLength}
 use Rattle.columns.specs.Columns.{Columns, columnCount, Keeps}
 use Rattle.columns.specs.JacobianOps.{dotOf}
 use Rattle.blocks.specs.declared.damping.Damping.{Damping}
 use Rattle.blocks.specs.Sides.{blockCount, firstOf, dofOf}
-use Rattle.blocks.specs.Damping.{termOf}
+use Rattle.blocks.specs.Claims.{blocksTold, mapLeft, Mapped}
+use Rattle.blocks.specs.Damping.{dampingTold, termOf}
 use Rattle.blocks.specs.Access.{squaresBefore}
 
 -- how many values all blocks have
@@ -60,6 +63,35 @@ dampBlock d elims b y = range (dampColumn d (dofOf elims b) (squaresBefore elims
 
 abbrev pub dampBlocks : Damping → List ℕ → List Float → List Float
 dampBlocks d elims y = range (dampBlock d elims) 0 (blockCount elims) y
+
+-- ---- calls
+
+-- 1 to 9, then 11, where n values are lent, and then what else the call checks
+unfoldable pub valuesTold : Columns → List ℕ → List ℕ → List ℕ → ℕ → Told → Told
+valuesTold m kept elims map n more = orElse (blocksTold m kept elims map) (orElse (wrongLength (n ∷ valueCount elims ∷ [])) more)
+
+-- what such a call tells, and what it leaves in the map
+unfoldable pub checkValues : Columns → List ℕ → List ℕ → List ℕ → ℕ → Told → Mapped
+checkValues m kept elims map n more = record {
+  told = valuesTold m kept elims map n more;
+  map = mapLeft (valuesTold m kept elims map n more) m kept elims map;
+}
+
+-- and in the block values, which a refused call does not change
+pub record ValuesLeft : Type 0 where
+  pub told : Told
+  pub map : List ℕ
+  pub values : List Float
+
+abbrev pub valuesLeft : Mapped → List Float → List Float → ValuesLeft
+valuesLeft o new old = record { told = o .told; map = o .map; values = onPass (o .told) new old }
+
+unfoldable pub gatherFromJacobian : Columns → List ℕ → List ℕ → List ℕ → List Float → ValuesLeft
+gatherFromJacobian m kept elims map y = valuesLeft (checkValues m kept elims map (length y) done) (dotBlocks m elims) y
+
+-- 12 comes after 11
+unfoldable pub dampValues : Columns → List ℕ → List ℕ → List ℕ → Damping → List Float → ValuesLeft
+dampValues m kept elims map d y = valuesLeft (checkValues m kept elims map (length y) (dampingTold d)) (dampBlocks d elims y) y
 
 -- ---- what the functions that check nothing ask: what a passed check gives
 
