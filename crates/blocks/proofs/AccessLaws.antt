@@ -1,13 +1,13 @@
 -- Block access: where there is a block and the values reach it, its part is its values, and an entry is that part read by columns; else the
 -- part is empty. Assumes nothing.
-use mathlib.Core.Path.{_≡_, refl}
+use mathlib.Core.Path.{_≡_}
 use mathlib.Core.Bool.{true, false}
 use mathlib.Core.List.{List, []}
 use Prim.Native.Nat.{ℕ, _+_, _-_, _≤_, _<_}
 use native.Mathlib.Omega.{arith}
 use lib.ListN.{length, getD, length-take, length-drop}
 use lib.Seq.{getD-take, getD-drop}
-use lib.Dec.{ltb, leb}
+use lib.Dec.{ltb}
 use borrow.Author.Tests.{lt-ltb, leb-true}
 use lib.Ieee.{Float, nan}
 use Rattle.blocks.specs.declared.eliminated_blocks.Entry.the-variants as entry

@@ -1,15 +1,15 @@
 -- What the code of src/eliminated_blocks.rt shows of the definitions. Assumes nothing.
 use mathlib.Core.Path.{_≡_, refl, sym, ap, _∙_}
 use mathlib.Core.Bool.{Bool, true, false, _&&_, cond}
-use mathlib.Core.List.{List, [], _∷_}
-use Prim.Native.Nat.{ℕ, zero, suc, _+_, _-_, _*_, _/_, _≤_, _<_}
+use mathlib.Core.List.{List}
+use Prim.Native.Nat.{ℕ, zero, suc, _+_, _-_, _*_, _≤_, _<_}
 use native.Mathlib.Numerals.{add-one}
 use native.Mathlib.Omega.{arith}
-use native.Mathlib.Nat.{le-antisymm, mul-le-mul, mul-le-mul-right, suc-mul, add-zero, add-suc}
+use native.Mathlib.Nat.{le-antisymm, mul-le-mul-right, suc-mul, add-zero, add-suc}
 use lib.Dec.{ltb, leb}
 use lib.ListN.{length, getD, take, drop}
 use lib.Ieee.{Float, nan}
-use borrow.Author.Tests.{lt-ltb, le-ltb, le-leb, lt-leb, ltb-true, ltb-false, leb-true, leb-false}
+use borrow.Author.Tests.{lt-ltb, le-ltb, le-leb, lt-leb, ltb-true, leb-true, leb-false}
 use Rattle.blocks.specs.Sides.{dofOf}
 use Rattle.blocks.specs.declared.partition.Number.{Number}
 use Rattle.blocks.specs.declared.partition.Number.the-variants.{Is, Nothing}

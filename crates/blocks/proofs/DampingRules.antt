@@ -1,15 +1,15 @@
 -- What the code of src/damping.rt shows of the definitions: a lemma for each way that a function returns. Assumes nothing.
-use mathlib.Core.Path.{_≡_, refl, sym, _∙_}
-use mathlib.Core.Bool.{Bool, true, false, not, _&&_}
-use mathlib.Core.List.{List, [], _∷_}
+use mathlib.Core.Path.{_≡_, refl}
+use mathlib.Core.Bool.{Bool, true, false}
+use mathlib.Core.List.{[], _∷_}
 use Prim.Native.Nat.{_*_}
 use borrow.Author.Needs.{needs}
 use borrow.Author.Tests.{eq-eqb}
-use lib.Ieee.{Float, nan, inf, fin, up, down, binary64, mul, lt, eq, ne, isNan, ofBits, ofInt}
+use lib.Ieee.{Float, nan, inf, fin, up, down, binary64, mul, lt, ne, isNan, ofBits, ofInt}
 use Rattle.columns.specs.declared.refusal.Refusal.{Refusal}
 use Rattle.columns.specs.declared.refusal.Answer.{Answer}
 use Rattle.columns.specs.declared.refusal.Answer.the-variants.{Done, Refused}
-use Rattle.columns.specs.Refusals.{Told, tell, done, refused, told, onPass}
+use Rattle.columns.specs.Refusals.{tell, done, refused, told, onPass}
 use Rattle.columns.proofs.RefusalLaws.{pass-refused}
 use Rattle.blocks.specs.declared.damping.Damping.{Damping}
 use Rattle.blocks.specs.declared.damping.DiagonalTerm.the-variants as term

@@ -2,6 +2,8 @@
 -- arguments a, the result and the parameters as the call leaves them. Each is the general law `by-equation`. Assumes nothing.
 use mathlib.Core.Path.{_≡_, refl, ap}
 use mathlib.Core.Bool.{cond}
+use mathlib.Core.List.{List}
+use Prim.Native.Nat.{ℕ}
 use contract.Lifetimes.{Lfts}
 use denote.Ref.{now}
 use lib.Dec.{eqb}
@@ -21,6 +23,7 @@ use Rattle.blocks.specs.declared.partition.ColSlot.{ColSlot}
 use Rattle.blocks.specs.declared.eliminated_blocks.Place.{Place}
 use Rattle.blocks.specs.declared.eliminated_blocks.Entry.{Entry}
 use Rattle.blocks.specs.Damping.{Termed, termed}
+use Rattle.blocks.specs.BlockValues.{ValuesLeft}
 use Rattle.blocks.proofs.damping.Damping.identity.Reads as identity
 use Rattle.blocks.proofs.damping.Damping.check.Reads as check
 use Rattle.blocks.proofs.damping.Damping.term.Reads as plain
@@ -34,6 +37,8 @@ use Rattle.blocks.proofs.eliminated_blocks.block_place.Reads as places
 use Rattle.blocks.proofs.eliminated_blocks.block.Reads as blocks
 use Rattle.blocks.proofs.eliminated_blocks.dof.Reads as dofs
 use Rattle.blocks.proofs.eliminated_blocks.at.Reads as entries
+use Rattle.blocks.proofs.eliminated_blocks.gather_from_jacobian.Reads as gathers
+use Rattle.blocks.proofs.eliminated_blocks.damp.Reads as damps
 
 unfoldable termBack : Termed → DiagonalTerm
 termBack d = cond (eqb (d .told .number) 0) (Term (getD (d .terms) 0 nan)) (Refused (refusalOf (d .told)))
@@ -85,3 +90,28 @@ dof κs a s t p q = named _ p q
 
 pub at : (κs : Lfts 2) (a : _) (s t : _) (p q : Entry) → entries.Post κs a p s → entries.Post κs a q t → p ≡ q
 at κs a s t p q = named _ p q
+
+-- an answer, with the map and the block values that the call leaves
+abbrev Outcome : Type 0
+Outcome = Answer × List ℕ × List Float
+
+abbrev outcome : Answer → List ℕ → List Float → Outcome
+outcome a map values = (a, map, values)
+
+values-determined : (r : ValuesLeft) (p q : Outcome) → record { told = told (p .0); map = p .1; values = p .2 } ≡ r → record { told = told (q .0); map = q .1; values = q .2 } ≡ r
+    → p ≡ q
+values-determined r =
+    by-equation (λ (o : Outcome). record { told = told (o .0); map = o .1; values = o .2 }) (λ (w : ValuesLeft). outcome (answerOf (w .told)) (w .map) (w .values))
+    (λ o. ap (λ (a : Answer). outcome a (o .1) (o .2)) (answer-back (o .0))) r
+
+pub gather-from-jacobian : (κs : Lfts 7) (a : _) (s t : _) (p q : Answer) → gathers.Post κs a p s → gathers.Post κs a q t
+    → outcome p (now (s .1 .1 .1 .1 .1 .1 .0)) (now (s .1 .1 .1 .1 .1 .1 .1 .0)) ≡ outcome q (now (t .1 .1 .1 .1 .1 .1 .0)) (now (t .1 .1 .1 .1 .1 .1 .1 .0))
+gather-from-jacobian κs a s t p q =
+    values-determined _ (outcome p (now (s .1 .1 .1 .1 .1 .1 .0)) (now (s .1 .1 .1 .1 .1 .1 .1 .0)))
+    (outcome q (now (t .1 .1 .1 .1 .1 .1 .0)) (now (t .1 .1 .1 .1 .1 .1 .1 .0)))
+
+pub damp : (κs : Lfts 7) (a : _) (s t : _) (p q : Answer) → damps.Post κs a p s → damps.Post κs a q t
+    → outcome p (now (s .1 .1 .1 .1 .1 .1 .0)) (now (s .1 .1 .1 .1 .1 .1 .1 .1 .0)) ≡ outcome q (now (t .1 .1 .1 .1 .1 .1 .0)) (now (t .1 .1 .1 .1 .1 .1 .1 .1 .0))
+damp κs a s t p q =
+    values-determined _ (outcome p (now (s .1 .1 .1 .1 .1 .1 .0)) (now (s .1 .1 .1 .1 .1 .1 .1 .1 .0)))
+    (outcome q (now (t .1 .1 .1 .1 .1 .1 .0)) (now (t .1 .1 .1 .1 .1 .1 .1 .1 .0)))

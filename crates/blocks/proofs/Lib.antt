@@ -14,4 +14,5 @@ pub mod AccessRules
 pub mod AccessLaws
 pub mod ValueRules
 pub mod ValueCalls
+pub mod ValueLaws
 pub mod DeterminedParts

@@ -1,41 +1,29 @@
 -- A lookup gives what the side's list of columns does: the first place where the column stands there is its local number, and nothing is
 -- answered exactly where it stands nowhere. Assumes nothing.
-use mathlib.Core.Path.{_≡_, refl, sym, ap, _∙_}
-use mathlib.Core.Bool.{Bool, true, false, cond, _&&_}
+use mathlib.Core.Path.{_≡_, refl, sym, _∙_}
+use mathlib.Core.Bool.{Bool, true, false, cond}
 use mathlib.Core.List.{List}
-use Prim.Native.Nat.{ℕ, _+_, _-_, _≤_, _<_}
+use Prim.Native.Nat.{ℕ, _+_, _-_, _<_}
 use native.Mathlib.Omega.{arith}
-use native.Mathlib.Nat.{le-antisymm}
 use native.Mathlib.Decide.{decLt}
-use lib.Dec.{ltb, leb, eqb}
+use lib.Dec.{ltb}
 use lib.ListN.{length, getD}
-use borrow.Author.Tests.{lt-ltb, le-ltb, le-leb, ltb-true, ltb-false, eq-eqb, ne-eqb, eqb-true}
+use borrow.Author.Tests.{lt-ltb, le-ltb, le-leb, ltb-true}
 use Rattle.ground.specs.First.{first, None}
-use Rattle.ground.proofs.FirstLaws.{first-low, first-before, first-bad, first-past, past-none, none-past}
-use Rattle.blocks.specs.Sides.{blockCount, firstOf, dofOf, blockColumns, cols, offsetOf, sideDof}
+use Rattle.ground.proofs.FirstLaws.{first-before, first-bad, past-none, none-past}
+use Rattle.blocks.specs.Sides.{blockCount, firstOf, dofOf, cols, offsetOf, sideDof}
 use Rattle.blocks.specs.Claims.{tooMany, placeOf}
 use Rattle.blocks.specs.declared.partition.Number.{Number}
 use Rattle.blocks.specs.declared.partition.Number.the-variants.{Is, Nothing}
 use Rattle.blocks.specs.declared.partition.Within.{Within}
 use Rattle.blocks.specs.declared.partition.Within.the-variants as within
 use Rattle.blocks.specs.Lookups.{asked, holds, holder, inBlock, localIn, withinIn}
+use Rattle.blocks.proofs.PlaceLaws.{place-is, place-none}
 use Rattle.blocks.proofs.SideLaws.{cols-length, offset-next, cols-at, LocalOf, cols-from}
 use Rattle.blocks.proofs.LookupRules.{held-low, held-high}
 
 clash : true ≡ false → ⊥
 clash q = let z : _≡_ {A = ℕ} 0 1 = cc in omega arith
-
--- the one place where a test holds and before which it holds nowhere
-pub first-is : (bad : ℕ → Bool) (lo hi k : ℕ) → lo ≤ k → k < hi → bad k ≡ true → None bad lo k → first bad lo hi ≡ k
-first-is bad lo hi k l h e none = le-antisymm (low (decLt k (first bad lo hi))) (high (decLt (first bad lo hi) k))
-  where
-    low : Dec (k < first bad lo hi) → first bad lo hi ≤ k
-    low (yes p) = absurd (clash (sym e ∙ first-before bad lo hi k l p))
-    low (no p) = omega arith
-
-    high : Dec (first bad lo hi < k) → k ≤ first bad lo hi
-    high (yes p) = absurd (clash (sym (first-bad bad lo hi (omega arith)) ∙ none _ (first-low bad lo hi) p))
-    high (no p) = omega arith
 
 module _ (side : List ℕ) (column : ℕ) (few : tooMany side ≡ false) where
   -- a list within the limit is asked whole
@@ -87,18 +75,13 @@ module _ (side : List ℕ) (column : ℕ) (few : tooMany side ≡ false) where
             omega arith
 
     pub local-place : placeOf (cols side) column ≡ offsetOf side (holder side column) + inBlock side column
-    unfolding placeOf
     local-place =
-        first-is (λ i. eqb (getD (cols side) i 0) column) 0 (length (cols side)) (offsetOf side (holder side column) + inBlock side column) (omega arith)
-        (rw (cols-length side) (omega (arith, inside, offset-next side (holder side column) (blockCount side) among)))
-        (eq-eqb _ _ local-column) (λ p _ l. ne-eqb _ _ (local-first p l))
+        place-is (cols side) column (offsetOf side (holder side column) + inBlock side column)
+        (rw (cols-length side) (omega (arith, inside, offset-next side (holder side column) (blockCount side) among))) local-column local-first
 
   -- no block holds a column exactly where it stands nowhere in the list
   pub none-place : None (holds side column) 0 (blockCount side) → placeOf (cols side) column ≡ length (cols side)
-  unfolding placeOf
-  none-place none =
-      first-past (λ i. eqb (getD (cols side) i 0) column) 0 (length (cols side)) (omega arith) (λ p _ l.
-      ne-eqb _ _ (λ e. at p (cols-from side p (rw (cols-length side) at l)) e))
+  none-place none = place-none (cols side) column (λ p l e. at p (cols-from side p (rw (cols-length side) at l)) e)
     where
       at : (p : ℕ) → LocalOf side p → getD (cols side) p 0 ≡ column → ⊥
       at p r e = clash (sym (holds-at p r e .1) ∙ none (r .block) (omega arith) (r .has .block))

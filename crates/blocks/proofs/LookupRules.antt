@@ -1,19 +1,19 @@
 -- What the code of src/partition.rt shows of the definitions: a lemma for each way that a function returns, and what its calls ask. Assumes
 -- nothing.
-use mathlib.Core.Path.{_≡_, refl, sym, ap, _∙_}
+use mathlib.Core.Path.{_≡_, refl}
 use mathlib.Core.Bool.{Bool, true, false, _&&_, cond}
-use mathlib.Core.List.{List, [], _∷_}
-use Prim.Native.Nat.{ℕ, _+_, _-_, _*_, _/_, _≤_, _<_}
+use mathlib.Core.List.{List}
+use Prim.Native.Nat.{ℕ, _+_, _-_, _/_, _≤_, _<_}
 use native.Mathlib.Numerals.{add-one}
 use native.Mathlib.Omega.{arith}
 use native.Mathlib.Nat.{le-antisymm}
 use lib.Dec.{ltb, leb}
-use lib.ListN.{length, getD}
-use borrow.Author.Tests.{lt-ltb, le-ltb, le-leb, lt-leb, ltb-true, ltb-false, leb-true, leb-false}
+use lib.ListN.{length}
+use borrow.Author.Tests.{lt-ltb, le-ltb, le-leb, lt-leb, ltb-true, ltb-false, leb-true}
 use Rattle.ground.specs.First.{first}
 use Rattle.ground.proofs.FirstLaws.{first-bad}
 use Rattle.ground.proofs.Rules.{searches}
-use Rattle.blocks.specs.Sides.{blockCount, firstOf, dofOf, offsetOf}
+use Rattle.blocks.specs.Sides.{firstOf, dofOf, offsetOf}
 use Rattle.blocks.specs.Claims.{tooMany}
 use Rattle.blocks.specs.declared.partition.Number.{Number}
 use Rattle.blocks.specs.declared.partition.Number.the-variants.{Is, Nothing}

@@ -1,9 +1,9 @@
 -- What the calls of src/eliminated_blocks.rt show that are lent block values: what they tell, what a refusal leaves, and what a pass gives the
 -- work behind it. Assumes nothing.
 use mathlib.Core.Path.{_≡_, refl, sym, ap, _∙_}
-use mathlib.Core.Bool.{Bool, true, false}
+use mathlib.Core.Bool.{true}
 use mathlib.Core.List.{List, [], _∷_, _++_}
-use Prim.Native.Nat.{ℕ, zero, suc, _+_, _-_, _*_, _/_, _≤_, _<_}
+use Prim.Native.Nat.{ℕ, zero, suc, _+_, _-_, _*_, _≤_, _<_}
 use native.Mathlib.Omega.{arith}
 use native.Mathlib.Nat.{mul-le-mul}
 use native.Mathlib.Decide.{decLt}
@@ -15,7 +15,7 @@ use Rattle.ground.proofs.GatherLaws.{length-listOf}
 use Rattle.columns.specs.declared.refusal.Refusal.{Refusal}
 use Rattle.columns.specs.declared.refusal.Answer.{Answer}
 use Rattle.columns.specs.declared.refusal.Answer.the-variants.{Done, Refused}
-use Rattle.columns.specs.Refusals.{Told, tell, done, refused, told, Passes, onPass, orElse}
+use Rattle.columns.specs.Refusals.{Told, done, refused, told, Passes, onPass, orElse}
 use Rattle.columns.specs.Lengths.{wrongLength}
 use Rattle.columns.specs.Columns.{Columns, columnCount}
 use Rattle.columns.proofs.RefusalLaws.{pass-refused, pass-done, both-pass}
@@ -25,7 +25,7 @@ use Rattle.blocks.specs.declared.partition.Number.the-variants.{Is, Noth
 use Rattle.blocks.specs.Sides.{blockCount, firstOf, dofOf}
 use Rattle.blocks.specs.Claims.{mark, marked, placeOf, claims, earlyTold, blocksTold, mapLeft, Mapped, checkBlocks, BlocksKeep}
 use Rattle.blocks.specs.Access.{squareOf, squaresBefore, upTo}
-use Rattle.blocks.specs.BlockValues.{valueCount, valuesTold, checkValues, ValuesLeft, valuesLeft, Limited, BlocksFit}
+use Rattle.blocks.specs.BlockValues.{valueCount, valuesTold, checkValues, valuesLeft, Limited, BlocksFit}
 use Rattle.blocks.proofs.AccessRules.{up-to-none, up-to-some}
 use Rattle.blocks.proofs.WalkRules.{marked-all}
 use Rattle.blocks.proofs.PartLaws.{passes-parted}

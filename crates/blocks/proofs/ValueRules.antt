@@ -1,20 +1,20 @@
 -- What the code of src/block_values.rt shows of the definitions: values put one after the other, and diagonals damped. Assumes nothing.
 use mathlib.Core.Path.{_≡_, refl, sym, ap, _∙_}
-use mathlib.Core.List.{List, [], _∷_, _++_, append-assoc, append-nil}
-use Prim.Native.Nat.{ℕ, zero, suc, _+_, _-_, _*_, _/_, _≤_, _<_}
+use mathlib.Core.List.{List, [], _∷_, _++_, append-assoc}
+use Prim.Native.Nat.{ℕ, zero, suc, _+_, _-_, _*_, _≤_, _<_}
 use native.Mathlib.Numerals.{add-one}
 use native.Mathlib.Omega.{arith}
-use native.Mathlib.Nat.{le-antisymm, add-zero, zero-add, zero-mul, suc-mul, mul-one, add-assoc, mul-le-mul-right}
-use lib.ListN.{length, getD, set, length-append, length-set}
+use native.Mathlib.Nat.{le-antisymm, add-zero, zero-add, zero-mul, suc-mul, mul-one, mul-le-mul-right}
+use lib.ListN.{length, getD, set, length-append}
 use lib.Seq.{set-append-seam}
 use lib.Ieee.{Float, nan, binary64, add}
 use Rattle.ground.specs.Range.{range}
 use Rattle.ground.specs.Gather.{gather}
 use Rattle.ground.specs.Fold.{folded}
 use Rattle.ground.proofs.GatherLaws.{gather-none, gather-last}
-use Rattle.ground.proofs.FoldLaws.{folded-none, folded-one, fold-turn, fold-done}
+use Rattle.ground.proofs.FoldLaws.{folded-one, fold-turn, fold-done}
 use Rattle.ground.proofs.Rules.{loops}
-use Rattle.columns.specs.Columns.{Columns, columnsOf, columnCount, Keeps}
+use Rattle.columns.specs.Columns.{Columns}
 use Rattle.columns.specs.JacobianOps.{dotOf}
 use Rattle.columns.specs.Unchecked.{HasColumns}
 use Rattle.blocks.specs.Sides.{blockCount, firstOf, dofOf}
@@ -45,7 +45,7 @@ put-all xs y e = put-over xs [] y 0 refl e ∙ rw zero-add
 
 -- ---- how many there are
 
-length-each : (f : ℕ → List Float) (d n : ℕ) → ((k : ℕ) → length (f k) ≡ d) → length (gather f 0 n) ≡ n * d
+pub length-each : (f : ℕ → List Float) (d n : ℕ) → ((k : ℕ) → length (f k) ≡ d) → length (gather f 0 n) ≡ n * d
 length-each f d zero h = ap length (gather-none f 0 0 (omega arith)) ∙ sym (zero-mul d)
 length-each f d (suc n) h =
     ap (λ (k : ℕ). length (gather f 0 k)) (sym (add-one n))
@@ -54,16 +54,16 @@ length-each f d (suc n) h =
     ∙ rw (length-each f d n h, h n, suc-mul)
 
 module _ (m : Columns) where
-  length-column : (first dof c : ℕ) → length (dotColumn m first dof c) ≡ dof
+  pub length-column : (first dof c : ℕ) → length (dotColumn m first dof c) ≡ dof
   unfolding dotColumn dotEntry
   length-column first dof c = length-each (dotEntry m first c) 1 dof (λ k. refl) ∙ mul-one dof
 
   module _ (elims : List ℕ) where
-    length-block : (b : ℕ) → length (dotBlock m elims b) ≡ squareOf elims b
+    pub length-block : (b : ℕ) → length (dotBlock m elims b) ≡ squareOf elims b
     unfolding dotBlock squareOf
     length-block b = length-each (dotColumn m (firstOf elims b) (dofOf elims b)) (dofOf elims b) (dofOf elims b) (length-column (firstOf elims b) (dofOf elims b))
 
-    length-blocks : (n : ℕ) → length (gather (dotBlock m elims) 0 n) ≡ squaresBefore elims n
+    pub length-blocks : (n : ℕ) → length (gather (dotBlock m elims) 0 n) ≡ squaresBefore elims n
     unfolding squaresBefore
     length-blocks zero = ap length (gather-none (dotBlock m elims) 0 0 (omega arith))
     length-blocks (suc n) =

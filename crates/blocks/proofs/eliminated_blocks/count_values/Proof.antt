@@ -1,16 +1,8 @@
+-- `blocks::eliminated_blocks::count_values` meets its contract. Assumes nothing.
 use Rattle.blocks.proofs.ValueCalls.{count-is, count-none}
 use Rattle.blocks.proofs.AccessRules.{access}
 use Rattle.blocks.proofs.eliminated_blocks.count_values.Statement.{statement}
 use Rattle.blocks.proofs.eliminated_blocks.count_values.Tie as tie
-
-squares-before-requires : tie.Need-squares-before-requires
-squares-before-requires c κs = search access
-
-enum-known-sum : tie.Need-enum-known-sum
-enum-known-sum c = search access
-
-enum-told : tie.Need-enum-told
-enum-told c = search access
 
 returns : tie.Need-returns
 returns c =
@@ -23,4 +15,6 @@ returns-2 c =
     count-none _ (s .before .before .pre) (s .squares-before .result) (s .squares-before .ensures) (c .enum-told .given .1)
 
 pub count-values-spec : {M : Type 1} → statement M
-count-values-spec = tie.close (tie.spec squares-before-requires enum-known-sum enum-told returns returns-2)
+count-values-spec =
+    tie.close (tie.spec
+    (λ c κs. search access) (λ c. search access) (λ c. search access) returns returns-2)
