@@ -15,4 +15,5 @@ pub mod AccessLaws
 pub mod ValueRules
 pub mod ValueCalls
 pub mod ValueLaws
+pub mod PartCases
 pub mod DeterminedParts
