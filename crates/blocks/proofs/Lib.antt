@@ -1,9 +1,10 @@
--- The laws of specs/, for the layers above, and what the functions' proofs are handed.
-pub mod WalkRules
-pub mod CallRules
+-- The laws of specs/. The layers above cite SideLaws, PartLaws, MapLaws, LookupLaws, AccessLaws and ValueLaws; the others serve the proofs of
+-- this crate's functions.
 pub mod PlaceLaws
-pub mod WalkLaws
 pub mod SideLaws
+pub mod WalkRules
+pub mod WalkLaws
+pub mod CallRules
 pub mod PartLaws
 pub mod MapLaws
 pub mod DampingRules
@@ -15,5 +16,7 @@ pub mod AccessLaws
 pub mod ValueRules
 pub mod ValueCalls
 pub mod ValueLaws
-pub mod PartCases
+pub mod Determined
 pub mod DeterminedParts
+pub mod Cases
+pub mod PartCases

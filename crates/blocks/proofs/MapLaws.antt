@@ -1,25 +1,26 @@
 -- What the column map holds after a call: nothing new after 1 to 6, marks after a later refusal, and on success at each column its place among the
 -- kept columns and then the eliminated ones. Assumes nothing.
-use mathlib.Core.Path.{_≡_, refl, sym, ap, _∙_, subst}
+use mathlib.Core.Path.{_≡_, refl, sym, ap, _∙_}
 use mathlib.Core.Bool.{Bool, true, false, cond}
-use mathlib.Core.List.{List, [], _∷_, _++_}
+use mathlib.Core.List.{List, [], _++_}
 use Prim.Native.Nat.{ℕ, _+_, _-_, _≤_, _<_}
 use native.Mathlib.Omega.{arith}
 use lib.Dec.{eqb}
-use lib.ListN.{length, getD, drop, replicate, length-append, length-replicate, length-drop}
-use lib.Seq.{drop-at}
+use lib.ListN.{length, getD, drop, replicate, length-append, length-replicate, length-drop, List·getD-append}
+use lib.Seq.{drop-at, getD-append-add}
 use borrow.Author.Tests.{eq-eqb, ne-eqb, eqb-true, eqb-false}
 use Rattle.ground.specs.Gather.{listOf}
 use Rattle.ground.proofs.GatherLaws.{length-listOf}
 use Rattle.columns.specs.Refusals.{Told, Passes, onPass}
 use Rattle.columns.specs.Columns.{Columns, columnCount}
+use Rattle.columns.proofs.RefusalLaws.{both-pass}
 use Rattle.blocks.specs.Sides.{cols, offsetOf, sideDof, HasAt, sideOf}
-use Rattle.blocks.specs.Claims.{mark, marked, claims, placeOf, earlyTold, mapLeft, Parted, BlocksKeep}
+use Rattle.blocks.specs.Claims.{mark, marked, claims, placeOf, earlyTold, blocksTold, mapLeft, Mapped, checkBlocks, Parted, BlocksKeep}
 use Rattle.blocks.proofs.PlaceLaws.{place-at, getD-front}
-use Rattle.blocks.proofs.SideLaws.{cols-length, LocalOf, cols-from}
+use Rattle.blocks.proofs.SideLaws.{cols-length, cols-from}
 use Rattle.blocks.proofs.WalkRules.{marked-all}
 use Rattle.blocks.proofs.CallRules.{early-passes}
-use Rattle.blocks.proofs.PartLaws.{placeIn, parted-cols, parted-place, parted-claimed, parted-dofs}
+use Rattle.blocks.proofs.PartLaws.{placeIn, parted-cols, parted-place, parted-claimed, parted-dofs, passes-parted}
 
 -- ---- what a call that tells t leaves
 
@@ -127,7 +128,31 @@ module _ (n : ℕ) (kept elims rest : List ℕ) (p : Parted n kept elims) where
       let b = cols-length elims in
       rw (map-place c h) (omega arith)
 
-  -- a column that exists stands in its side's list below the side's dof
+  -- so column c is kept with that local number, or eliminated with what is left of it
+  pub map-back-kept : (c : ℕ) → c < n → getD (mapOn n kept elims rest) c 0 < sideDof kept → getD (cols kept) (getD (mapOn n kept elims rest) c 0) 0 ≡ c
+  map-back-kept c h l = sym (List·getD-append (cols kept) (cols elims) 0 (getD (mapOn n kept elims rest) c 0) (rw (cols-length kept) l)) ∙ map-back c h
+
+  pub map-back-elims : (c : ℕ) → c < n → sideDof kept ≤ getD (mapOn n kept elims rest) c 0 → getD (cols elims) (getD (mapOn n kept elims rest) c 0 - sideDof kept) 0 ≡ c
+  map-back-elims c h l =
+      let v = getD (mapOn n kept elims rest) c 0 in
+      let a = cols-length kept in
+      let e : length (cols kept) + (v - sideDof kept) ≡ v = omega arith in
+      sym (getD-append-add (cols kept) (cols elims) (v - sideDof kept) 0) ∙ ap (λ (i : ℕ). getD (cols kept ++ cols elims) i 0) e ∙ map-back c h
+
+module _ (n : ℕ) (kept elims : List ℕ) (p : Parted n kept elims) where
+  -- no column stands twice in a side's list, nor in both
+  pub cols-once : (e : Bool) (k l : ℕ) → k < sideDof (sideOf e kept elims) → l < sideDof (sideOf e kept elims)
+      → getD (cols (sideOf e kept elims)) k 0 ≡ getD (cols (sideOf e kept elims)) l 0 → k ≡ l
+  cols-once e k l h g q =
+      let z : cond e (sideDof kept) 0 + k ≡ cond e (sideDof kept) 0 + l = sym (map-local n kept elims [] p e k h) ∙ ap (λ (c : ℕ). getD (mapOn n kept elims []) c 0) q ∙ map-local n kept elims [] p e l g in
+      omega arith
+
+  pub cols-apart : (k l : ℕ) → k < sideDof kept → l < sideDof elims → getD (cols kept) k 0 ≡ getD (cols elims) l 0 → ⊥
+  cols-apart k l h g q =
+      let z : k ≡ sideDof kept + l = sym (map-kept n kept elims [] p k h) ∙ ap (λ (c : ℕ). getD (mapOn n kept elims []) c 0) q ∙ map-elims n kept elims [] p l g in
+      omega arith
+
+  -- a side's columns exist
   pub cols-in : (e : Bool) (l : ℕ) → l < sideDof (sideOf e kept elims) → getD (cols (sideOf e kept elims)) l 0 < n
   cols-in e l h = let r = cols-from (sideOf e kept elims) l h in p .right e .inside _ _ _ (r .has)
 
@@ -140,3 +165,29 @@ module _ (m : Columns) (kept elims map : List ℕ) (g : BlocksKeep m kept elims 
 
   pub keeps-below : (c : ℕ) → c < columnCount m → getD (mapOn (columnCount m) kept elims (drop (columnCount m) map)) c 0 < columnCount m
   keeps-below c h = rw keeps-dofs at (map-below (columnCount m) kept elims (drop (columnCount m) map) (g .parted) c h)
+
+-- ---- what a call of `check_blocks` gives the call that goes on from it
+
+module _ (m : Columns) (kept elims map : List ℕ) where
+  pub passes-early : Passes (blocksTold m kept elims map) → Passes (earlyTold m kept elims map)
+  unfolding blocksTold
+  passes-early p = both-pass (earlyTold m kept elims map) _ p .0
+
+  -- its answer told t and it left map′
+  module _ (t : Told) (map′ : List ℕ) (e : record { told = t; map = map′ } ≡ checkBlocks m kept elims map) where
+    pub blocks-told : t ≡ blocksTold m kept elims map
+    unfolding checkBlocks
+    blocks-told = ap (λ (w : Mapped). w .told) e
+
+    pub blocks-map : map′ ≡ mapLeft (blocksTold m kept elims map) m kept elims map
+    unfolding checkBlocks
+    blocks-map = ap (λ (w : Mapped). w .map) e
+
+    -- it passed
+    pub blocks-keep : Passes t → BlocksKeep m kept elims map
+    blocks-keep p = passes-parted m kept elims map (rw blocks-told at p)
+
+    pub blocks-mapped : Passes t → map′ ≡ mapOn (columnCount m) kept elims (drop (columnCount m) map)
+    blocks-mapped p =
+        let q : Passes (blocksTold m kept elims map) = rw blocks-told at p in
+        blocks-map ∙ left-done m kept elims map (passes-early q) (blocksTold m kept elims map) q

@@ -2,22 +2,22 @@
 use mathlib.Core.Path.{_≡_, refl, sym, ap, _∙_, subst}
 use mathlib.Core.Bool.{Bool, true, false, not, _||_, cond}
 use mathlib.Core.List.{List, [], _∷_, _++_}
-use Prim.Native.Nat.{ℕ, zero, suc, _+_, _-_, _/_, _%_, _≤_, _<_}
+use Prim.Native.Nat.{ℕ, zero, suc, _+_, _-_, _%_, _≤_, _<_}
 use native.Mathlib.Decide.{decLt}
 use native.Mathlib.Omega.{arith}
 use lib.Dec.{eqb, leb, ltb}
 use lib.ListN.{length, getD, length-append}
-use borrow.Author.Tests.{lt-ltb, le-ltb, lt-leb, le-leb, eq-eqb, ne-eqb, ltb-false, leb-false, eqb-true, eqb-false, not-false}
+use borrow.Author.Tests.{le-ltb, lt-leb, le-leb, eq-eqb, ne-eqb, ltb-false, leb-false, eqb-true, eqb-false, not-false}
 use Rattle.ground.specs.First.{None}
 use Rattle.ground.specs.Gather.{gather}
 use Rattle.ground.proofs.FirstLaws.{past-none, none-past}
 use Rattle.ground.proofs.GatherLaws.{gather-same}
-use Rattle.columns.specs.Refusals.{Told, tell, done, Passes, onPass, orElse, sooner}
-use Rattle.columns.specs.Lengths.{lengthOf, needOf, pairBad, pairsTold, noRoom}
-use Rattle.columns.specs.Columns.{Columns, columnCount, checked, Keeps}
-use Rattle.columns.proofs.RefusalLaws.{pass-done, passed, both-pass}
+use Rattle.columns.specs.Refusals.{Told, tell, done, Passes, onPass}
+use Rattle.columns.specs.Lengths.{pairBad, pairsTold, noRoom}
+use Rattle.columns.specs.Columns.{Columns, columnCount}
+use Rattle.columns.proofs.RefusalLaws.{passed, both-pass}
 use Rattle.columns.proofs.CheckLaws.{or-false, passes-keeps, keeps-passes}
-use Rattle.blocks.specs.Sides.{blockCount, firstOf, dofOf, blockColumns, cols, offsetOf, sideDof, HasAt, sideOf}
+use Rattle.blocks.specs.Sides.{blockCount, firstOf, blockColumns, cols, offsetOf, sideDof, HasAt, sideOf}
 use Rattle.blocks.specs.Claims.{
   tooMany,
   isOdd,
@@ -34,13 +34,12 @@ use Rattle.blocks.specs.Claims.{
   unclaimed,
   gapTold,
   blocksTold,
-  SideRight,
   Claimed,
   Parted,
   BlocksKeep,
 }
 use Rattle.blocks.proofs.PlaceLaws.{place-at, place-low, gather-at, gather-less}
-use Rattle.blocks.proofs.SideLaws.{cols-length, cols-at, local-low, LocalOf, cols-from, local-once, offset-once, pick, baseOf, join-at, join-low, Joined, join-from, join-once}
+use Rattle.blocks.proofs.SideLaws.{cols-length, cols-at, local-low, cols-from, local-once, offset-once, baseOf, join-at, join-low, join-from, join-once}
 use Rattle.blocks.proofs.WalkLaws.{claims-count}
 use Rattle.blocks.proofs.CallRules.{early-passes}
 
@@ -135,13 +134,13 @@ module _ (n : ℕ) (side : List ℕ) where
           let q = good (length (gather (blockClaims n side) 0 b) + 0) (omega arith) in
           rw a at q
 
-pick-claims : (n : ℕ) (kept elims : List ℕ) (e : Bool) → pick e (sideClaims n kept) (sideClaims n elims) ≡ sideClaims n (sideOf e kept elims)
-pick-claims n kept elims true = refl
-pick-claims n kept elims false = refl
+side-of-claims : (n : ℕ) (kept elims : List ℕ) (e : Bool) → sideOf e (sideClaims n kept) (sideClaims n elims) ≡ sideClaims n (sideOf e kept elims)
+side-of-claims n kept elims true = refl
+side-of-claims n kept elims false = refl
 
-pick-cols : (kept elims : List ℕ) (e : Bool) → pick e (cols kept) (cols elims) ≡ cols (sideOf e kept elims)
-pick-cols kept elims true = refl
-pick-cols kept elims false = refl
+side-of-cols : (kept elims : List ℕ) (e : Bool) → sideOf e (cols kept) (cols elims) ≡ cols (sideOf e kept elims)
+side-of-cols kept elims true = refl
+side-of-cols kept elims false = refl
 
 -- ---- the columns of both sides, kept first
 
@@ -154,14 +153,14 @@ module _ (kept elims : List ℕ) where
   base-is true = cols-length kept
   base-is false = refl
 
-  low-is : (e : Bool) (b i c : ℕ) → HasAt (sideOf e kept elims) b i c → offsetOf (sideOf e kept elims) b + i < length (pick e (cols kept) (cols elims))
-  low-is e b i c h = rw (pick-cols kept elims e, cols-length (sideOf e kept elims)) (local-low (sideOf e kept elims) b i (h .block) (h .offset))
+  low-is : (e : Bool) (b i c : ℕ) → HasAt (sideOf e kept elims) b i c → offsetOf (sideOf e kept elims) b + i < length (sideOf e (cols kept) (cols elims))
+  low-is e b i c h = rw (side-of-cols kept elims e, cols-length (sideOf e kept elims)) (local-low (sideOf e kept elims) b i (h .block) (h .offset))
 
   pub place-has : (e : Bool) (b i c : ℕ) → HasAt (sideOf e kept elims) b i c → getD (cols kept ++ cols elims) (placeIn e b i) 0 ≡ c
   unfolding placeIn
   place-has e b i c h =
       rw (← base-is e) (join-at (cols kept) (cols elims) e _ (low-is e b i c h))
-      ∙ ap (λ (xs : List ℕ). getD xs (offsetOf (sideOf e kept elims) b + i) 0) (pick-cols kept elims e)
+      ∙ ap (λ (xs : List ℕ). getD xs (offsetOf (sideOf e kept elims) b + i) 0) (side-of-cols kept elims e)
       ∙ cols-at (sideOf e kept elims) b i (h .block) (h .offset)
       ∙ sym (h .is)
 
@@ -181,7 +180,7 @@ module _ (kept elims : List ℕ) where
   unfolding placeIn
   place-from k h =
       let j = join-from (cols kept) (cols elims) k h in
-      let p = pick-cols kept elims (j .second) in
+      let p = side-of-cols kept elims (j .second) in
       let s = sideOf (j .second) kept elims in
       let l = cols-from s (j .place) (rw (← cols-length s, ← p) (j .below)) in
       let g : getD (cols kept ++ cols elims) k 0 ≡ getD (cols s) (j .place) 0 =
@@ -228,9 +227,9 @@ module _ (n : ℕ) (kept elims : List ℕ) where
     starts-of : (e : Bool) (b : ℕ) → b < blockCount (sideOf e kept elims) → firstOf (sideOf e kept elims) b < n
     starts-of e =
         block-starts n (sideOf e kept elims) (λ k h.
-        let l : k < length (pick e (sideClaims n kept) (sideClaims n elims)) = rw (pick-claims n kept elims e) h in
+        let l : k < length (sideOf e (sideClaims n kept) (sideClaims n elims)) = rw (side-of-claims n kept elims e) h in
         let a = claim-in n cs (walk-none n cs walk) _ (join-low (sideClaims n kept) (sideClaims n elims) e k l) in
-        rw (join-at (sideClaims n kept) (sideClaims n elims) e k l, pick-claims n kept elims e) at a)
+        rw (join-at (sideClaims n kept) (sideClaims n elims) e k l, side-of-claims n kept elims e) at a)
 
     are-cols : cs ≡ cols kept ++ cols elims
     are-cols = claims-cols starts-of

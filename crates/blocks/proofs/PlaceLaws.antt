@@ -1,18 +1,17 @@
 -- Where a column stands in a list of columns, and what a list that a walk hands on holds at each place. Assumes nothing.
-use mathlib.Core.Path.{_≡_, refl, sym, ap, _∙_, subst}
+use mathlib.Core.Path.{_≡_, refl, sym, ap, _∙_}
 use mathlib.Core.Bool.{Bool, true, false, cond}
 use mathlib.Core.List.{List, [], _∷_, _++_}
 use Prim.Native.Nat.{ℕ, zero, suc, _+_, _-_, _≤_, _<_}
-use native.Mathlib.Nat.{le-antisymm, le-trans, le-of-eq}
 use native.Mathlib.Decide.{decLt, ℕ-discrete}
 use native.Mathlib.Omega.{arith}
-use lib.Dec.{eqb, ltb}
+use lib.Dec.{eqb}
 use lib.ListN.{length, getD, set, replicate, length-append, length-set, length-replicate, getD-replicate, List·getD-append}
-use lib.Seq.{getD-append-add, getD-set-same, getD-set-other, ext-getD, set-append-left}
-use borrow.Author.Tests.{eq-eqb, ne-eqb, eqb-true, eqb-false}
-use Rattle.ground.specs.First.{firstN, first, None}
+use lib.Seq.{getD-append-add, getD-set-same, getD-set-other, ext-getD}
+use borrow.Author.Tests.{eqb-true, eqb-false}
+use Rattle.ground.specs.First.{firstN, first}
 use Rattle.ground.specs.Gather.{gather, listOf}
-use Rattle.ground.proofs.FirstLaws.{first-low, first-before, first-bad, first-past}
+use Rattle.ground.proofs.FirstLaws.{first-before, first-bad}
 use Rattle.ground.proofs.GatherLaws.{gather-none, gather-first, gather-last, gather-split, length-listOf, getD-listOf}
 use Rattle.blocks.specs.Claims.{placeOf}
 

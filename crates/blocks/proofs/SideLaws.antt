@@ -1,17 +1,17 @@
 -- A side's columns in local order, whatever its numbers are: block b's column at offset i has the local number of the earlier dofs plus i, and each
 -- local number is of just one such column. Assumes nothing.
-use mathlib.Core.Path.{_≡_, refl, sym, ap, _∙_, subst}
+use mathlib.Core.Path.{_≡_, refl, sym, ap, _∙_}
 use mathlib.Core.Bool.{Bool, true, false, cond}
-use mathlib.Core.List.{List, [], _∷_, _++_}
+use mathlib.Core.List.{List, _++_}
 use Prim.Native.Nat.{ℕ, zero, suc, _+_, _-_, _≤_, _<_}
 use native.Mathlib.Decide.{decLt}
 use native.Mathlib.Omega.{arith}
 use lib.ListN.{length, getD, length-append, List·getD-append}
 use lib.Seq.{getD-append-add}
-use Rattle.ground.specs.Gather.{gather, listOf}
+use Rattle.ground.specs.Gather.{gather}
 use Rattle.ground.proofs.GatherLaws.{gather-none, gather-last, length-listOf, getD-listOf}
 use Rattle.blocks.specs.Sides.{blockCount, firstOf, dofOf, blockColumns, cols, offsetOf, sideDof, HasAt, sideOf}
-use Rattle.blocks.proofs.PlaceLaws.{gather-less, gather-at, Handed, gather-from}
+use Rattle.blocks.proofs.PlaceLaws.{gather-less, gather-at, gather-from}
 
 module _ (side : List ℕ) where
   pub block-length : (b : ℕ) → length (blockColumns side b) ≡ dofOf side b
@@ -87,26 +87,23 @@ offset-once side a b i j c h g e =
     let q = g .is in
     omega arith
 
--- ---- two lists, one after the other: e says in which of them
-
-abbrev pub pick : Bool → List ℕ → List ℕ → List ℕ
-pick e xs ys = cond e ys xs
+-- ---- two lists, one after the other: e says in which of them, as of the sides
 
 abbrev pub baseOf : Bool → List ℕ → ℕ
 baseOf e xs = cond e (length xs) 0
 
-pub join-at : (xs ys : List ℕ) (e : Bool) (k : ℕ) → k < length (pick e xs ys) → getD (xs ++ ys) (baseOf e xs + k) 0 ≡ getD (pick e xs ys) k 0
+pub join-at : (xs ys : List ℕ) (e : Bool) (k : ℕ) → k < length (sideOf e xs ys) → getD (xs ++ ys) (baseOf e xs + k) 0 ≡ getD (sideOf e xs ys) k 0
 join-at xs ys true k h = getD-append-add xs ys k 0
 join-at xs ys false k h = let z : 0 + k ≡ k = omega arith in rw z (List·getD-append xs ys 0 k h)
 
-pub join-low : (xs ys : List ℕ) (e : Bool) (k : ℕ) → k < length (pick e xs ys) → baseOf e xs + k < length (xs ++ ys)
+pub join-low : (xs ys : List ℕ) (e : Bool) (k : ℕ) → k < length (sideOf e xs ys) → baseOf e xs + k < length (xs ++ ys)
 join-low xs ys true k h = let g = length-append xs ys in omega arith
 join-low xs ys false k h = let g = length-append xs ys in omega arith
 
 pub record Joined (xs ys : List ℕ) (k : ℕ) : Type 0 where
   pub second : Bool
   pub place : ℕ
-  pub below : place < length (pick second xs ys)
+  pub below : place < length (sideOf second xs ys)
   pub is : k ≡ baseOf second xs + place
 
 pub join-from : (xs ys : List ℕ) (k : ℕ) → k < length (xs ++ ys) → Joined xs ys k
@@ -116,7 +113,7 @@ join-from xs ys k h = go (decLt k (length xs))
     go (yes p) = record { second = false; place = k; below = p; is = omega arith }
     go (no p) = let g = length-append xs ys in record { second = true; place = k - length xs; below = omega arith; is = omega arith }
 
-pub join-once : (xs ys : List ℕ) (e f : Bool) (k l : ℕ) → k < length (pick e xs ys) → l < length (pick f xs ys) → baseOf e xs + k ≡ baseOf f xs + l → (e ≡ f) × (k ≡ l)
+pub join-once : (xs ys : List ℕ) (e f : Bool) (k l : ℕ) → k < length (sideOf e xs ys) → l < length (sideOf f xs ys) → baseOf e xs + k ≡ baseOf f xs + l → (e ≡ f) × (k ≡ l)
 join-once xs ys true true k l h g q = (refl, omega arith)
 join-once xs ys true false k l h g q = absurd (omega arith)
 join-once xs ys false true k l h g q = absurd (omega arith)

@@ -1,13 +1,13 @@
 -- The walk on the map tells and leaves what specs/Claims.antt says: after the claims `seen` the map holds the place of each among them, and the
 -- mark elsewhere. Assumes nothing.
-use mathlib.Core.Path.{_≡_, refl, sym, ap, _∙_, subst}
-use mathlib.Core.Bool.{Bool, true, false, _||_, cond}
+use mathlib.Core.Path.{_≡_, refl, sym, ap, _∙_}
+use mathlib.Core.Bool.{true, false, cond}
 use mathlib.Core.List.{List, [], _∷_, _++_, append-assoc, append-nil}
 use Prim.Native.Nat.{ℕ, zero, suc, _+_, _-_, _≤_, _<_}
-use native.Mathlib.Nat.{le-trans, le-of-eq}
+use native.Mathlib.Nat.{le-of-eq}
 use native.Mathlib.Decide.{decLt}
 use native.Mathlib.Omega.{arith}
-use lib.Dec.{eqb, leb, ltb}
+use lib.Dec.{leb, ltb}
 use lib.ListN.{length, getD, take, drop, set, replicate, length-append, length-replicate, length-drop}
 use lib.Seq.{take-at, drop-at, set-append-left, getD-append-seam}
 use borrow.Author.Tests.{le-leb, lt-leb, lt-ltb, le-ltb, eq-eqb, ne-eqb, eqb-false, leb-false}
@@ -17,11 +17,11 @@ use Rattle.ground.specs.Gather.{listOf}
 use Rattle.ground.proofs.FirstLaws.{first-low, first-stop, first-turn, past-none}
 use Rattle.ground.proofs.GatherLaws.{length-listOf, getD-listOf}
 use Rattle.columns.specs.declared.refusal.Refusal.{Refusal}
-use Rattle.columns.specs.Refusals.{Told, tell, done, refused, number, Passes, onPass, orElse}
+use Rattle.columns.specs.Refusals.{Told, tell, done, refused, number, Passes, onPass}
 use Rattle.columns.proofs.RefusalLaws.{number-some, pass-done, pass-refused, passed}
-use Rattle.blocks.specs.Claims.{mark, marked, placeOf, claimBad, badClaim, walkTold, unclaimed, gapTold, Mapped}
-use Rattle.blocks.specs.Walk.{isFree, Walked, through, stopped, claimOn, walked, marks, Roomy, Room, lateTold, Tried, walkBlocks}
-use Rattle.blocks.proofs.PlaceLaws.{first-same, place-le, place-left, place-past, place-new, place-other, listOf-same, listOf-all, set-listOf, getD-front}
+use Rattle.blocks.specs.Claims.{mark, marked, placeOf, claimBad, badClaim, walkTold, unclaimed, gapTold}
+use Rattle.blocks.specs.Walk.{isFree, Walked, through, stopped, claimOn, walked, marks, Roomy, Room, Tried, walkBlocks}
+use Rattle.blocks.proofs.PlaceLaws.{first-same, place-left, place-past, place-new, place-other, listOf-same, listOf-all, set-listOf, getD-front}
 use Rattle.blocks.proofs.WalkRules.{marked-all, claim-out, claim-twice, claim-free, stopped-all, free-mark, room-step, room-after, walk-keeps, walk-length, walk-drop}
 
 -- ---- the map after some claims

@@ -9,18 +9,18 @@ use native.Mathlib.Omega.{arith}
 use lib.Dec.{eqb, leb}
 use lib.ListN.{length, getD, take, drop, set, replicate, length-set, length-take, drop-of-length-le}
 use lib.Seq.{take-set-lt, drop-set-lt, getD-take, length-take-le, take-all, take-length, drop-length}
-use borrow.Author.Tests.{le-leb, lt-leb, eq-eqb, ne-eqb, leb-true, leb-false, eqb-true, eqb-false}
+use borrow.Author.Tests.{le-leb, lt-leb, eq-eqb, ne-eqb, leb-false, eqb-true, eqb-false}
 use Rattle.ground.specs.Gather.{gather, listOf}
 use Rattle.ground.specs.Fold.{folded}
-use Rattle.ground.proofs.GatherLaws.{gather-none, gather-first, gather-last}
-use Rattle.ground.proofs.FoldLaws.{folded-none, folded-one, folded-append, folded-keeps, fold-turn, fold-done}
+use Rattle.ground.proofs.GatherLaws.{gather-none, gather-last}
+use Rattle.ground.proofs.FoldLaws.{folded-one, folded-append, folded-keeps, fold-turn}
 use Rattle.ground.proofs.Rules.{searches}
 use Rattle.columns.specs.declared.refusal.Refusal.{Refusal}
-use Rattle.columns.specs.Refusals.{Told, tell, done, refused, Passes, onPass}
+use Rattle.columns.specs.Refusals.{tell, refused, Passes, onPass}
 use Rattle.columns.proofs.RefusalLaws.{number-some}
-use Rattle.blocks.specs.Sides.{blockCount, firstOf, dofOf, blockColumns}
-use Rattle.blocks.specs.Claims.{mark, blockClaims, sideClaims, marked}
-use Rattle.blocks.specs.Walk.{isFree, Walked, through, stopped, claimOn, walked, marks, Roomy, Room, BlockWalks}
+use Rattle.blocks.specs.Sides.{firstOf, dofOf, blockColumns}
+use Rattle.blocks.specs.Claims.{mark, blockClaims, marked}
+use Rattle.blocks.specs.Walk.{isFree, Walked, through, stopped, claimOn, walked, marks, Room}
 
 -- ---- the mark
 
@@ -55,20 +55,6 @@ module _ (n next : ℕ) (map : List ℕ) (c : ℕ) where
   pub claim-free : c < n → isFree map c ≡ true → claimOn n (through next map) c ≡ through (next + 1) (set map c next)
   unfolding claimOn onPass
   claim-free h e = rw (lt-leb _ _ h, e)
-
--- the ways that a claim goes
-pub data Turn (n : ℕ) (map : List ℕ) (c : ℕ) : Type 0 where
-  out : n ≤ c → Turn n map c
-  twice : c < n → isFree map c ≡ false → Turn n map c
-  free : c < n → isFree map c ≡ true → Turn n map c
-
-pub turn-of : (n : ℕ) (map : List ℕ) (c : ℕ) → Turn n map c
-turn-of n map c = go (leb n c) refl (isFree map c) refl
-  where
-    go : (b : Bool) → leb n c ≡ b → (d : Bool) → isFree map c ≡ d → Turn n map c
-    go true p d q = out (leb-true n c p)
-    go false p true q = free (leb-false n c p) q
-    go false p false q = twice (leb-false n c p) q
 
 -- a walk that has stopped stays so
 stopped-one : (n : ℕ) (s : Walked) (c : ℕ) → eqb (s .told .number) 0 ≡ false → claimOn n s c ≡ s

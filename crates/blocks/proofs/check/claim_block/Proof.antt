@@ -1,10 +1,11 @@
-use mathlib.Core.Path.{_≡_, refl, sym, _∙_}
+-- `check::claim_block` meets its contract. Assumes nothing.
+use mathlib.Core.Path.{_≡_, refl}
 use Prim.Native.Nat.{_+_, _-_, _≤_}
 use lib.ListN.{length, length-set}
 use Rattle.ground.specs.Gather.{gather}
 use Rattle.ground.proofs.FoldLaws.{fold-done}
 use Rattle.blocks.specs.Claims.{blockClaims}
-use Rattle.blocks.specs.Walk.{through, claimOn, walked, Room}
+use Rattle.blocks.specs.Walk.{through, walked, Room}
 use Rattle.blocks.proofs.WalkRules.{columnAt, block-enters, block-out, column-out, column-twice, column-free, room-step}
 use borrow.Author.Needs.{needs}
 use Rattle.blocks.proofs.check.claim_block.Statement.{statement}
@@ -44,10 +45,17 @@ wide-requires-2 : tie.Need-wide-requires-2 Inv-loop μ-loop
 wide-requires-2 c κs = search needs
 
 returns : tie.Need-returns Inv-loop μ-loop
-returns c = block-out _ (c .before .before .before .before .before .before .before .args .side .now) (c .before .before .before .before .before .before .before .args .b) _ _ _ (c .before .before .before .wide .ensures .0) (c .if1 .taken)
+returns c =
+    let b3 = c .before .before .before in
+    let b7 = b3 .before .before .before .before in
+    block-out _ (b7 .args .side .now) (b7 .args .b) _ _ _ (b3 .wide .ensures .0) (c .if1 .taken)
 
 loop-holds : tie.Need-loop-holds Inv-loop μ-loop
-loop-holds c = (block-enters _ (c .before .before .before .before .before .before .before .args .side .now) (c .before .before .before .before .before .before .before .args .b) _ _ _ (c .before .before .before .wide .ensures .0) (c .before .wide2 .ensures .0) (c .if1 .left), c .before .before .before .before .before .before .before .pre .room, search needs, search needs, refl)
+loop-holds c =
+    let b1 = c .before in
+    let b3 = b1 .before .before in
+    let b7 = b3 .before .before .before .before in
+    (block-enters _ (b7 .args .side .now) (b7 .args .b) _ _ _ (b3 .wide .ensures .0) (b1 .wide2 .ensures .0) (c .if1 .left), b7 .pre .room, search needs, search needs, refl)
 
 add-c : tie.Need-add-c Inv-loop μ-loop
 add-c c = search needs
@@ -56,7 +64,10 @@ same-length : tie.Need-same-length Inv-loop μ-loop
 same-length c = search needs
 
 returns-2 : tie.Need-returns-2 Inv-loop μ-loop
-returns-2 c = column-out _ _ _ _ _ _ _ (c .before .loop-test .taken) (c .before .before .loop .inv .0) (c .if2 .taken)
+returns-2 c =
+    let b1 = c .before in
+    let b2 = b1 .before in
+    column-out _ _ _ _ _ _ _ (b1 .loop-test .taken) (b2 .loop .inv .0) (c .if2 .taken)
 
 mul-if3 : tie.Need-mul-if3 Inv-loop μ-loop
 mul-if3 c = search needs
@@ -68,7 +79,11 @@ same-length-2 : tie.Need-same-length-2 Inv-loop μ-loop
 same-length-2 c = search needs
 
 returns-3 : tie.Need-returns-3 Inv-loop μ-loop
-returns-3 c = column-twice _ _ _ _ _ _ _ (c .before .before .before .loop-test .taken) (c .before .before .before .before .loop .inv .0) (c .before .before .if2 .left) (c .if3 .taken)
+returns-3 c =
+    let b2 = c .before .before in
+    let b3 = b2 .before in
+    let b4 = b3 .before in
+    column-twice _ _ _ _ _ _ _ (b3 .loop-test .taken) (b4 .loop .inv .0) (b2 .if2 .left) (c .if3 .taken)
 
 mul-map : tie.Need-mul-map Inv-loop μ-loop
 mul-map c = search needs

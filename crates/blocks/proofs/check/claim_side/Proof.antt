@@ -1,6 +1,6 @@
-use mathlib.Core.Path.{_≡_, refl, sym, _∙_}
+-- `check::claim_side` meets its contract. Assumes nothing.
+use mathlib.Core.Path.{_≡_, refl}
 use Prim.Native.Nat.{_-_, _≤_}
-use native.Mathlib.Omega.{arith}
 use lib.ListN.{length}
 use Rattle.ground.specs.Gather.{gather}
 use Rattle.ground.proofs.FoldLaws.{fold-done}
@@ -18,10 +18,14 @@ abbrev μ-loop : tie.MeasureT-loop
 μ-loop side n start map₀ next₀ count b₀ map next b = count - b
 
 loop-holds : tie.Need-loop-holds Inv-loop μ-loop
-loop-holds c = (refl, c .before .before .pre, search needs, refl)
+loop-holds c =
+    let b2 = c .before .before in
+    (refl, b2 .pre, search needs, refl)
 
 claim-block-requires : tie.Need-claim-block-requires Inv-loop μ-loop
-claim-block-requires c κs = record { there = search needs; room = c .before .before .loop .inv .1 }
+claim-block-requires c κs =
+    let b2 = c .before .before in
+    record { there = search needs; room = b2 .loop .inv .1 }
 
 enum-known-k : tie.Need-enum-known-k Inv-loop μ-loop
 enum-known-k c = search needs
@@ -33,7 +37,12 @@ same-length : tie.Need-same-length Inv-loop μ-loop
 same-length c = search needs
 
 returns : tie.Need-returns Inv-loop μ-loop
-returns c = side-stopped _ _ _ _ _ _ _ _ (c .before .before .before .before .before .before .before .loop-test .taken) (c .before .before .before .before .before .before .before .before .loop .inv .0) (c .before .r .given .0 .0) (rw (c .before .r .given .1) at (c .before .before .before .before .before .claim-block .ensures))
+returns c =
+    let b1 = c .before in
+    let b5 = b1 .before .before .before .before in
+    let b7 = b5 .before .before in
+    let b8 = b7 .before in
+    side-stopped _ _ _ _ _ _ _ _ (b7 .loop-test .taken) (b8 .loop .inv .0) (b1 .r .given .0 .0) (rw (b1 .r .given .1) at (b5 .claim-block .ensures))
 
 add-b : tie.Need-add-b Inv-loop μ-loop
 add-b c = search needs

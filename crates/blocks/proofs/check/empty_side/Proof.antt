@@ -1,6 +1,6 @@
+-- `check::empty_side` meets its contract. Assumes nothing.
 use borrow.Author.Tests.{eq-eqb, ne-eqb}
 use Rattle.blocks.specs.Claims.{emptySide}
-use borrow.Author.Needs.{needs}
 use Rattle.blocks.proofs.check.empty_side.Statement.{statement}
 use Rattle.blocks.proofs.check.empty_side.Tie as tie
 

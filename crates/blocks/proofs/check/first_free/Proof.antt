@@ -1,3 +1,4 @@
+-- `check::first_free` meets its contract. Assumes nothing.
 use mathlib.Core.Path.{_≡_}
 use Prim.Native.Nat.{_≤_, _-_}
 use Rattle.ground.specs.First.{first}

@@ -1,3 +1,4 @@
+-- `check::is_odd` meets its contract. Assumes nothing.
 use Rattle.blocks.specs.Claims.{isOdd}
 use borrow.Author.Needs.{needs}
 use Rattle.blocks.proofs.check.is_odd.Statement.{statement}

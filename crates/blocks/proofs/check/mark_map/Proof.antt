@@ -1,3 +1,4 @@
+-- `check::mark_map` meets its contract. Assumes nothing.
 use native.Mathlib.Omega.{arith}
 use Rattle.blocks.proofs.WalkRules.{marked-short}
 use borrow.Author.Needs.{needs}
@@ -11,7 +12,10 @@ same-length : tie.Need-same-length
 same-length c = search needs
 
 returns : tie.Need-returns
-returns c = marked-short _ (c .before .before .before .before .before .before .args .map .now) _ (omega arith) (c .before .before .mark-places .ensures)
+returns c =
+    let b2 = c .before .before in
+    let b6 = b2 .before .before .before .before in
+    marked-short _ (b6 .args .map .now) _ (omega arith) (b2 .mark-places .ensures)
 
 mark-places-requires-2 : tie.Need-mark-places-requires-2
 mark-places-requires-2 c κs = search needs

@@ -1,3 +1,4 @@
+-- `check::too_many` meets its contract. Assumes nothing.
 use Rattle.blocks.specs.Claims.{tooMany}
 use borrow.Author.Needs.{needs}
 use Rattle.blocks.proofs.check.too_many.Statement.{statement}
