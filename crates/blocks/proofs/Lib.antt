@@ -11,6 +11,7 @@ pub mod DampingRules
 pub mod DampingLaws
 pub mod LookupRules
 pub mod LookupLaws
+pub mod LookupMap
 pub mod AccessRules
 pub mod AccessLaws
 pub mod ValueRules
