@@ -79,10 +79,11 @@ module _ (m : Columns) (first dof c at : ℕ) where
   unfolding dotColumn
   column-start out = rw add-zero
 
-  pub entry-has : (r n : ℕ) → ColumnFits m first dof c at n → r < dof → HasColumns m (first + r) (first + c)
-  entry-has r n f l = record {
+  -- any two columns of the block exist
+  pub entry-has : (i j n : ℕ) → ColumnFits m first dof c at n → i < dof → j < dof → HasColumns m (first + i) (first + j)
+  entry-has i j n f k l = record {
     left = record { keeps = f .keeps; there = omega (arith, f .inside) };
-    right = record { keeps = f .keeps; there = omega (arith, f .inside, f .column) };
+    right = record { keeps = f .keeps; there = omega (arith, f .inside) };
   }
 
   put-one : (r : ℕ) (out : List Float) (x : Float) → x ≡ dotOf m (first + r) (first + c)
