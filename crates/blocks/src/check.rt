@@ -21,7 +21,7 @@ ghost use Rattle.blocks.specs.Walk.{isFree, through, walkOf, walked, wal
 // What the map holds at a column that no block has claimed, and at every column after a refusal.
 pub const MARK: u32 = 4_294_967_295;
 
-const MOST_BLOCKS: usize = 65_536;
+pub(crate) const MOST_BLOCKS: usize = 65_536;
 
 fn too_many(side: &[u32]) -> bool
     ensures { λ r. ⌜ r ≡ tooMany (now (side .entry)) ⌝ }

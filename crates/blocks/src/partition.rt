@@ -1,13 +1,12 @@
 // Where a column stands, asked of lists that nobody has checked: nothing here refuses or asks anything of its lists. The layers above go by
 // the column map, which answers in one read; these are for callers that have no map.
+use crate::check::MOST_BLOCKS;
 use ground::wide;
 ghost use mathlib.Core.Path.{_≡_};
 ghost use Prim.Native.Nat.{_*_, _-_, _≤_};
 ghost use lib.ListN.{length};
 ghost use Rattle.blocks.specs.Sides.{firstOf, dofOf, offsetOf};
 ghost use Rattle.blocks.specs.Lookups.{asked, holds, holder, localIn, withinIn, slotOf, offsetIn, BlockThere, HeldBy, BlocksThere};
-
-const MOST_BLOCKS: usize = 65_536;
 
 // Which side a column is on, and where there.
 pub enum ColSlot {
