@@ -1,5 +1,6 @@
 -- What the column map holds after a call: nothing new after 1 to 6, marks after a later refusal, and on success at each column its place among the
 -- kept columns and then the eliminated ones. Assumes nothing.
+use Rattle.ground.proofs.ListLaws.{getD-front}
 use mathlib.Core.Path.{_≡_, refl, sym, ap, _∙_}
 use mathlib.Core.Bool.{Bool, true, false, cond}
 use mathlib.Core.List.{List, [], _++_}
@@ -16,7 +17,7 @@ use Rattle.columns.specs.Columns.{Columns, columnCount}
 use Rattle.columns.proofs.RefusalLaws.{both-pass}
 use Rattle.blocks.specs.Sides.{cols, offsetOf, sideDof, HasAt, sideOf}
 use Rattle.blocks.specs.Claims.{mark, marked, claims, placeOf, earlyTold, blocksTold, mapLeft, Mapped, checkBlocks, Parted, BlocksKeep}
-use Rattle.blocks.proofs.PlaceLaws.{place-at, getD-front}
+use Rattle.blocks.proofs.PlaceLaws.{place-at}
 use Rattle.blocks.proofs.SideLaws.{cols-length, cols-from}
 use Rattle.blocks.proofs.WalkRules.{marked-all}
 use Rattle.blocks.proofs.CallRules.{early-passes}

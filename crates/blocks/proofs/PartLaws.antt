@@ -1,4 +1,5 @@
 -- What a passed check of blocks is worth, and that columns and blocks which keep the rules pass. Assumes nothing.
+use Rattle.ground.proofs.ListLaws.{gather-at, gather-less}
 use mathlib.Core.Path.{_≡_, refl, sym, ap, _∙_, subst}
 use mathlib.Core.Bool.{Bool, true, false, not, _||_, cond}
 use mathlib.Core.List.{List, [], _∷_, _++_}
@@ -38,7 +39,7 @@ use Rattle.blocks.specs.Claims.{
   Parted,
   BlocksKeep,
 }
-use Rattle.blocks.proofs.PlaceLaws.{place-at, place-low, gather-at, gather-less}
+use Rattle.blocks.proofs.PlaceLaws.{place-at, place-low}
 use Rattle.blocks.proofs.SideLaws.{cols-length, cols-at, local-low, cols-from, local-once, offset-once, baseOf, join-at, join-low, join-from, join-once}
 use Rattle.blocks.proofs.WalkLaws.{claims-count}
 use Rattle.blocks.proofs.CallRules.{early-passes}

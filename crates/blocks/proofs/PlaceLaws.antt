@@ -1,46 +1,15 @@
--- Where a column stands in a list of columns, and what a list that a walk hands on holds at each place. Assumes nothing.
-use mathlib.Core.Path.{_≡_, refl, sym, ap, _∙_}
-use mathlib.Core.Bool.{Bool, true, false, cond}
+-- Where a column stands in a list of columns. Assumes nothing.
+use mathlib.Core.Path.{_≡_, sym, _∙_}
 use mathlib.Core.List.{List, [], _∷_, _++_}
-use Prim.Native.Nat.{ℕ, zero, suc, _+_, _-_, _≤_, _<_}
-use native.Mathlib.Decide.{decLt, ℕ-discrete}
+use Prim.Native.Nat.{ℕ, _+_, _-_, _≤_, _<_}
+use native.Mathlib.Decide.{decLt}
 use native.Mathlib.Omega.{arith}
 use lib.Dec.{eqb}
-use lib.ListN.{length, getD, set, replicate, length-append, length-set, length-replicate, getD-replicate, List·getD-append}
-use lib.Seq.{getD-append-add, getD-set-same, getD-set-other, ext-getD}
+use lib.ListN.{length, getD, length-append, List·getD-append}
+use lib.Seq.{getD-append-add}
 use borrow.Author.Tests.{eqb-true, eqb-false}
-use Rattle.ground.specs.First.{firstN, first}
-use Rattle.ground.specs.Gather.{gather, listOf}
-use Rattle.ground.proofs.FirstLaws.{first-before, first-bad}
-use Rattle.ground.proofs.GatherLaws.{gather-none, gather-first, gather-last, gather-split, length-listOf, getD-listOf}
+use Rattle.ground.proofs.FirstLaws.{first-before, first-bad, first-high}
 use Rattle.blocks.specs.Claims.{placeOf}
-
--- ---- the first place where a test holds
-
-module _ (bad : ℕ → Bool) where
-  firstN-high : (k lo : ℕ) → firstN bad lo k ≤ lo + k
-  unfolding firstN
-  firstN-high zero lo = omega arith
-  firstN-high (suc k) lo = go (bad lo) (firstN-high k (suc lo))
-    where
-      go : (b : Bool) → firstN bad (suc lo) k ≤ suc lo + k → cond b lo (firstN bad (suc lo) k) ≤ lo + suc k
-      go true h = omega arith
-      go false h = omega arith
-
-  pub first-high : (lo hi : ℕ) → lo ≤ hi → first bad lo hi ≤ hi
-  unfolding first
-  first-high lo hi l = omega (arith, firstN-high (hi - lo) lo)
-
-module _ (f g : ℕ → Bool) where
-  firstN-same : (k lo : ℕ) → ((i : ℕ) → lo ≤ i → i < lo + k → f i ≡ g i) → firstN f lo k ≡ firstN g lo k
-  unfolding firstN
-  firstN-same zero lo e = refl
-  firstN-same (suc k) lo e = rw (e lo (omega arith) (omega arith), firstN-same k (suc lo) (λ i l h. e i (omega arith) (omega arith)))
-
-  -- tests that agree
-  pub first-same : (lo hi : ℕ) → ((i : ℕ) → lo ≤ i → i < hi → f i ≡ g i) → first f lo hi ≡ first g lo hi
-  unfolding first
-  first-same lo hi e = firstN-same (hi - lo) lo (λ i l h. e i l (omega arith))
 
 -- ---- a column's place
 
@@ -132,66 +101,3 @@ module _ (xs : List ℕ) (c : ℕ) where
           let g = length-append xs (c ∷ []) in
           let q : j ≡ length xs + 0 = omega arith in
           ne (sym e ∙ (rw q) ∙ getD-append-add xs (c ∷ []) 0 0)
-
--- ---- lists by their places
-
-module _ {A : Type 0} (d : A) (f g : ℕ → A) (n : ℕ) where
-  pub listOf-same : ((i : ℕ) → i < n → f i ≡ g i) → listOf f n ≡ listOf g n
-  listOf-same e =
-      ext-getD d _ _ (length-listOf f d n ∙ sym (length-listOf g d n)) (λ i h.
-      let l : i < n = rw (length-listOf f d n) at h in
-      getD-listOf f d n i l ∙ e i l ∙ sym (getD-listOf g d n i l))
-
-  -- a store changes one place
-  pub set-listOf : (k : ℕ) → k < n → ((i : ℕ) → (i ≡ k → ⊥) → g i ≡ f i) → set (listOf f n) k (g k) ≡ listOf g n
-  set-listOf k h e =
-      ext-getD d _ _ (length-set (listOf f n) k (g k) ∙ length-listOf f d n ∙ sym (length-listOf g d n)) (λ i l.
-      let p : i < n = rw (length-set (listOf f n) k (g k), length-listOf f d n) at l in
-      at i p (ℕ-discrete i k) ∙ sym (getD-listOf g d n i p))
-    where
-      at : (i : ℕ) → i < n → Dec (i ≡ k) → getD (set (listOf f n) k (g k)) i d ≡ g i
-      at i p (yes q) = rw q (getD-set-same (listOf f n) k (g k) d (rw (length-listOf f d n) h))
-      at i p (no q) = getD-set-other (listOf f n) k i (g k) d q ∙ getD-listOf f d n i p ∙ sym (e i q)
-
-pub listOf-all : {A : Type 0} (f : ℕ → A) (n : ℕ) (a : A) → ((i : ℕ) → i < n → f i ≡ a) → listOf f n ≡ replicate n a
-listOf-all f n a e =
-    ext-getD a _ _ (length-listOf f a n ∙ sym (length-replicate n a)) (λ i h.
-    let l : i < n = rw (length-listOf f a n) at h in
-    getD-listOf f a n i l ∙ e i l ∙ sym (getD-replicate n i a a l))
-
-pub getD-front : {A : Type 0} (d : A) (f : ℕ → A) (n : ℕ) (r : List A) (i : ℕ) → i < n → getD (listOf f n ++ r) i d ≡ f i
-getD-front d f n r i h = List·getD-append (listOf f n) r d i (rw (length-listOf f d n) h) ∙ getD-listOf f d n i h
-
--- what the places 0 up to k hand on: place b's i-th thing stands after all that the places before b hand on
-module _ {X : Type 0} (d : X) (f : ℕ → List X) where
-  pub gather-less : (b k : ℕ) → b < k → length (gather f 0 b) + length (f b) ≤ length (gather f 0 k)
-  gather-less b k h =
-      let e = length-append (gather f 0 (b + 1)) (gather f (b + 1) k) in
-      let g = length-append (gather f 0 b) (f b) in
-      rw (gather-split f 0 (b + 1) k (omega arith) (omega arith), e, gather-last f 0 b (omega arith), g) (omega arith)
-
-  pub gather-at : (b k i : ℕ) → b < k → i < length (f b) → getD (gather f 0 k) (length (gather f 0 b) + i) d ≡ getD (f b) i d
-  gather-at b k i h l =
-      rw (gather-split f 0 b k (omega arith) (omega arith), getD-append-add (gather f 0 b) (gather f b k) i d, gather-first f b k h)
-      (List·getD-append (f b) (gather f (b + 1) k) d i l)
-
--- and every place is such a one
-pub record Handed {X : Type 0} (f : ℕ → List X) (k l : ℕ) : Type 0 where
-  pub block : ℕ
-  pub offset : ℕ
-  pub below : block < k
-  pub inside : offset < length (f block)
-  pub is : l ≡ length (gather f 0 block) + offset
-
-pub gather-from : {X : Type 0} (f : ℕ → List X) (k l : ℕ) → l < length (gather f 0 k) → Handed f k l
-gather-from f zero l h = absurd (let e = ap length (gather-none f 0 0 (omega arith)) in omega arith)
-gather-from f (suc k) l h = go (decLt l (length (gather f 0 k))) (gather-from f k l)
-  where
-    s : length (gather f 0 (suc k)) ≡ length (gather f 0 k) + length (f k)
-    s =
-        let e : k + 1 ≡ suc k = omega arith in
-        ap (λ (i : ℕ). length (gather f 0 i)) (sym e) ∙ ap length (gather-last f 0 k (omega arith)) ∙ length-append (gather f 0 k) (f k)
-
-    go : Dec (l < length (gather f 0 k)) → (l < length (gather f 0 k) → Handed f k l) → Handed f (suc k) l
-    go (yes p) ih = let r = ih p in record { block = r .block; offset = r .offset; below = omega (arith, r .below); inside = r .inside; is = r .is }
-    go (no p) ih = record { block = k; offset = l - length (gather f 0 k); below = omega arith; inside = omega (arith, s); is = omega arith }

@@ -1,5 +1,6 @@
 -- A side's columns in local order, whatever its numbers are: block b's column at offset i has the local number of the earlier dofs plus i, and each
 -- local number is of just one such column. Assumes nothing.
+use Rattle.ground.proofs.ListLaws.{gather-less, gather-at, gather-from}
 use mathlib.Core.Path.{_≡_, refl, sym, ap, _∙_}
 use mathlib.Core.Bool.{Bool, true, false, cond}
 use mathlib.Core.List.{List, _++_}
@@ -11,7 +12,6 @@ use lib.Seq.{getD-append-add}
 use Rattle.ground.specs.Gather.{gather}
 use Rattle.ground.proofs.GatherLaws.{gather-none, gather-last, length-listOf, getD-listOf}
 use Rattle.blocks.specs.Sides.{blockCount, firstOf, dofOf, blockColumns, cols, offsetOf, sideDof, HasAt, sideOf}
-use Rattle.blocks.proofs.PlaceLaws.{gather-less, gather-at, gather-from}
 
 module _ (side : List ℕ) where
   pub block-length : (b : ℕ) → length (blockColumns side b) ≡ dofOf side b

@@ -1,5 +1,6 @@
 -- The block values entry by entry: what the gather puts at row r, column c of block b, and that damping adds its term to each diagonal value and
 -- leaves the others. Assumes nothing.
+use Rattle.ground.proofs.ListLaws.{gather-at}
 use mathlib.Core.Path.{_≡_, refl, sym, ap, _∙_}
 use mathlib.Core.Bool.{Bool, true, false, cond}
 use mathlib.Core.List.{List, [], _∷_}
@@ -22,7 +23,6 @@ use Rattle.blocks.specs.Sides.{blockCount, firstOf, dofOf}
 use Rattle.blocks.specs.Damping.{termOf}
 use Rattle.blocks.specs.Access.{squareOf, squaresBefore, entryPlace}
 use Rattle.blocks.specs.BlockValues.{valueCount, dotEntry, dotColumn, dotBlock, dotBlocks, dampPlace, dampColumn, dampBlock, dampBlocks}
-use Rattle.blocks.proofs.PlaceLaws.{gather-at}
 use Rattle.blocks.proofs.AccessRules.{in-square}
 use Rattle.blocks.proofs.AccessLaws.{entry-inside}
 use Rattle.blocks.proofs.ValueRules.{length-each, length-column, length-block, length-blocks, squares-within}

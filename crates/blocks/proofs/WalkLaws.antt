@@ -1,5 +1,6 @@
 -- The walk on the map tells and leaves what specs/Claims.antt says: after the claims `seen` the map holds the place of each among them, and the
 -- mark elsewhere. Assumes nothing.
+use Rattle.ground.proofs.ListLaws.{listOf-same, listOf-all, set-listOf, getD-front}
 use mathlib.Core.Path.{_≡_, refl, sym, ap, _∙_}
 use mathlib.Core.Bool.{true, false, cond}
 use mathlib.Core.List.{List, [], _∷_, _++_, append-assoc, append-nil}
@@ -14,14 +15,14 @@ use borrow.Author.Tests.{le-leb, lt-leb, lt-ltb, le-ltb, eq-eqb, ne-eqb, eqb-fal
 use Rattle.ground.specs.First.{first}
 use Rattle.ground.specs.Fold.{folded}
 use Rattle.ground.specs.Gather.{listOf}
-use Rattle.ground.proofs.FirstLaws.{first-low, first-stop, first-turn, past-none}
+use Rattle.ground.proofs.FirstLaws.{first-low, first-stop, first-turn, past-none, first-same}
 use Rattle.ground.proofs.GatherLaws.{length-listOf, getD-listOf}
 use Rattle.columns.specs.declared.refusal.Refusal.{Refusal}
 use Rattle.columns.specs.Refusals.{Told, tell, done, refused, number, Passes, onPass}
 use Rattle.columns.proofs.RefusalLaws.{number-some, pass-done, pass-refused, passed}
 use Rattle.blocks.specs.Claims.{mark, marked, placeOf, claimBad, badClaim, walkTold, unclaimed, gapTold}
 use Rattle.blocks.specs.Walk.{isFree, Walked, through, stopped, claimOn, walked, marks, Roomy, Room, Tried, walkBlocks}
-use Rattle.blocks.proofs.PlaceLaws.{first-same, place-left, place-past, place-new, place-other, listOf-same, listOf-all, set-listOf, getD-front}
+use Rattle.blocks.proofs.PlaceLaws.{place-left, place-past, place-new, place-other}
 use Rattle.blocks.proofs.WalkRules.{marked-all, claim-out, claim-twice, claim-free, stopped-all, free-mark, room-step, room-after, walk-keeps, walk-length, walk-drop}
 
 -- ---- the map after some claims

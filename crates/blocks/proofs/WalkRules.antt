@@ -1,5 +1,6 @@
 -- What the steps of src/check.rt show of the walk on the map, over plain variables: a lemma for each way that its functions go on or return.
 -- Assumes nothing.
+use Rattle.ground.proofs.ListLaws.{list-gathered}
 use mathlib.Core.Path.{_≡_, refl, sym, ap, _∙_, subst}
 use mathlib.Core.Bool.{Bool, true, false, cond}
 use mathlib.Core.List.{List, [], _∷_, _++_}
@@ -10,9 +11,8 @@ use lib.Dec.{eqb, leb}
 use lib.ListN.{length, getD, take, drop, set, replicate, length-set, length-take, drop-of-length-le}
 use lib.Seq.{take-set-lt, drop-set-lt, getD-take, length-take-le, take-all, take-length, drop-length}
 use borrow.Author.Tests.{le-leb, lt-leb, eq-eqb, ne-eqb, leb-false, eqb-true, eqb-false}
-use Rattle.ground.specs.Gather.{gather, listOf}
+use Rattle.ground.specs.Gather.{gather}
 use Rattle.ground.specs.Fold.{folded}
-use Rattle.ground.proofs.GatherLaws.{gather-none, gather-last}
 use Rattle.ground.proofs.FoldLaws.{folded-one, folded-append, folded-keeps, fold-turn}
 use Rattle.ground.proofs.Rules.{searches}
 use Rattle.columns.specs.declared.refusal.Refusal.{Refusal}
@@ -74,12 +74,6 @@ stopped-stays n r map cs = stopped-all n (stopped (refused r) map) cs (number-so
 -- the columns first + lo .. as a walk hands them on
 unfoldable pub columnAt : ℕ → ℕ → List ℕ
 columnAt first i = (first + i) ∷ []
-
-list-gathered : {A : Type 0} (g : ℕ → A) (k : ℕ) → listOf g k ≡ gather (λ i. g i ∷ []) 0 k
-list-gathered g zero = sym (gather-none (λ i. g i ∷ []) 0 0 (omega arith))
-list-gathered g (suc k) =
-    let e : k + 1 ≡ suc k = omega arith in
-    ap (λ xs. xs ++ (g k ∷ [])) (list-gathered g k) ∙ sym (gather-last (λ i. g i ∷ []) 0 k (omega arith)) ∙ ap (λ (i : ℕ). gather (λ i. g i ∷ []) 0 i) e
 
 -- first and dof are what the code read
 module _ (n : ℕ) (side : List ℕ) (b first dof : ℕ) (s : Walked) where

@@ -129,3 +129,29 @@ module _ (bad : ℕ → Bool) where
       go : (b : Bool) → some bad lo hi ≡ b → some bad lo hi ≡ true
       go true p = p
       go false p = let z : _≡_ {A = ℕ} 0 1 = cc (past-none lo hi p k l h, e) in absurd (omega arith)
+
+-- it is no later than the end
+module _ (bad : ℕ → Bool) where
+  firstN-high : (k lo : ℕ) → firstN bad lo k ≤ lo + k
+  unfolding firstN
+  firstN-high zero lo = omega arith
+  firstN-high (suc k) lo = go (bad lo) (firstN-high k (suc lo))
+    where
+      go : (b : Bool) → firstN bad (suc lo) k ≤ suc lo + k → cond b lo (firstN bad (suc lo) k) ≤ lo + suc k
+      go true h = omega arith
+      go false h = omega arith
+
+  pub first-high : (lo hi : ℕ) → lo ≤ hi → first bad lo hi ≤ hi
+  unfolding first
+  first-high lo hi l = omega (arith, firstN-high (hi - lo) lo)
+
+module _ (f g : ℕ → Bool) where
+  firstN-same : (k lo : ℕ) → ((i : ℕ) → lo ≤ i → i < lo + k → f i ≡ g i) → firstN f lo k ≡ firstN g lo k
+  unfolding firstN
+  firstN-same zero lo e = refl
+  firstN-same (suc k) lo e = rw (e lo (omega arith) (omega arith), firstN-same k (suc lo) (λ i l h. e i (omega arith) (omega arith)))
+
+  -- tests that agree
+  pub first-same : (lo hi : ℕ) → ((i : ℕ) → lo ≤ i → i < hi → f i ≡ g i) → first f lo hi ≡ first g lo hi
+  unfolding first
+  first-same lo hi e = firstN-same (hi - lo) lo (λ i l h. e i l (omega arith))

@@ -1,14 +1,16 @@
--- What a loop that writes a list place by place, `for i in 0..n { y[i] = g(i); }`, leaves there. Assumes nothing.
+-- What a loop that writes a list place by place, `for i in 0..n { y[i] = g(i); }`, leaves there; and what a list that a walk hands on holds at
+-- each place. Assumes nothing.
 use mathlib.Core.Path.{_≡_, refl, sym, ap, _∙_}
-use mathlib.Core.List.{List}
-use Prim.Native.Nat.{ℕ, _+_, _≤_, _<_}
+use mathlib.Core.List.{List, [], _∷_, _++_}
+use Prim.Native.Nat.{ℕ, zero, suc, _+_, _-_, _≤_, _<_}
+use native.Mathlib.Decide.{decLt, ℕ-discrete}
 use native.Mathlib.Omega.{arith}
-use lib.ListN.{length, getD, set, length-set, replicate, length-replicate, getD-replicate}
-use lib.Seq.{getD-set-same, getD-set-other, ext-getD}
+use lib.ListN.{length, getD, set, length-append, length-set, replicate, length-replicate, getD-replicate, List·getD-append}
+use lib.Seq.{getD-append-add, getD-set-same, getD-set-other, ext-getD}
 use Rattle.ground.specs.Range.{range}
-use Rattle.ground.specs.Gather.{listOf}
+use Rattle.ground.specs.Gather.{gather, listOf}
 use Rattle.ground.proofs.RangeLaws.{range-keeps, range-seen, range-idle, range-split, range-last}
-use Rattle.ground.proofs.GatherLaws.{length-listOf, getD-listOf}
+use Rattle.ground.proofs.GatherLaws.{gather-none, gather-first, gather-last, gather-split, length-listOf, getD-listOf}
 
 -- a list that a loop writes place by place, `for i in 0..n { y[i] = g(i); }`
 module _ {A : Type 0} (d : A) (g : ℕ → A) where
@@ -44,3 +46,73 @@ written-list d g n y e =
     let l : r < length y = rw (length-written d g 0 n y) at h in
     let m : r < n = rw e at l in
     written-at d g n r y m l ∙ sym (getD-listOf g d n r m))
+
+-- ---- lists by their places
+
+module _ {A : Type 0} (d : A) (f g : ℕ → A) (n : ℕ) where
+  pub listOf-same : ((i : ℕ) → i < n → f i ≡ g i) → listOf f n ≡ listOf g n
+  listOf-same e =
+      ext-getD d _ _ (length-listOf f d n ∙ sym (length-listOf g d n)) (λ i h.
+      let l : i < n = rw (length-listOf f d n) at h in
+      getD-listOf f d n i l ∙ e i l ∙ sym (getD-listOf g d n i l))
+
+  -- a store changes one place
+  pub set-listOf : (k : ℕ) → k < n → ((i : ℕ) → (i ≡ k → ⊥) → g i ≡ f i) → set (listOf f n) k (g k) ≡ listOf g n
+  set-listOf k h e =
+      ext-getD d _ _ (length-set (listOf f n) k (g k) ∙ length-listOf f d n ∙ sym (length-listOf g d n)) (λ i l.
+      let p : i < n = rw (length-set (listOf f n) k (g k), length-listOf f d n) at l in
+      at i p (ℕ-discrete i k) ∙ sym (getD-listOf g d n i p))
+    where
+      at : (i : ℕ) → i < n → Dec (i ≡ k) → getD (set (listOf f n) k (g k)) i d ≡ g i
+      at i p (yes q) = rw q (getD-set-same (listOf f n) k (g k) d (rw (length-listOf f d n) h))
+      at i p (no q) = getD-set-other (listOf f n) k i (g k) d q ∙ getD-listOf f d n i p ∙ sym (e i q)
+
+pub listOf-all : {A : Type 0} (f : ℕ → A) (n : ℕ) (a : A) → ((i : ℕ) → i < n → f i ≡ a) → listOf f n ≡ replicate n a
+listOf-all f n a e =
+    ext-getD a _ _ (length-listOf f a n ∙ sym (length-replicate n a)) (λ i h.
+    let l : i < n = rw (length-listOf f a n) at h in
+    getD-listOf f a n i l ∙ e i l ∙ sym (getD-replicate n i a a l))
+
+pub getD-front : {A : Type 0} (d : A) (f : ℕ → A) (n : ℕ) (r : List A) (i : ℕ) → i < n → getD (listOf f n ++ r) i d ≡ f i
+getD-front d f n r i h = List·getD-append (listOf f n) r d i (rw (length-listOf f d n) h) ∙ getD-listOf f d n i h
+
+-- what the places 0 up to k hand on: place b's i-th thing stands after all that the places before b hand on
+module _ {X : Type 0} (d : X) (f : ℕ → List X) where
+  pub gather-less : (b k : ℕ) → b < k → length (gather f 0 b) + length (f b) ≤ length (gather f 0 k)
+  gather-less b k h =
+      let e = length-append (gather f 0 (b + 1)) (gather f (b + 1) k) in
+      let g = length-append (gather f 0 b) (f b) in
+      rw (gather-split f 0 (b + 1) k (omega arith) (omega arith), e, gather-last f 0 b (omega arith), g) (omega arith)
+
+  pub gather-at : (b k i : ℕ) → b < k → i < length (f b) → getD (gather f 0 k) (length (gather f 0 b) + i) d ≡ getD (f b) i d
+  gather-at b k i h l =
+      rw (gather-split f 0 b k (omega arith) (omega arith), getD-append-add (gather f 0 b) (gather f b k) i d, gather-first f b k h)
+      (List·getD-append (f b) (gather f (b + 1) k) d i l)
+
+-- and every place is such a one
+pub record Handed {X : Type 0} (f : ℕ → List X) (k l : ℕ) : Type 0 where
+  pub block : ℕ
+  pub offset : ℕ
+  pub below : block < k
+  pub inside : offset < length (f block)
+  pub is : l ≡ length (gather f 0 block) + offset
+
+pub gather-from : {X : Type 0} (f : ℕ → List X) (k l : ℕ) → l < length (gather f 0 k) → Handed f k l
+gather-from f zero l h = absurd (let e = ap length (gather-none f 0 0 (omega arith)) in omega arith)
+gather-from f (suc k) l h = go (decLt l (length (gather f 0 k))) (gather-from f k l)
+  where
+    s : length (gather f 0 (suc k)) ≡ length (gather f 0 k) + length (f k)
+    s =
+        let e : k + 1 ≡ suc k = omega arith in
+        ap (λ (i : ℕ). length (gather f 0 i)) (sym e) ∙ ap length (gather-last f 0 k (omega arith)) ∙ length-append (gather f 0 k) (f k)
+
+    go : Dec (l < length (gather f 0 k)) → (l < length (gather f 0 k) → Handed f k l) → Handed f (suc k) l
+    go (yes p) ih = let r = ih p in record { block = r .block; offset = r .offset; below = omega (arith, r .below); inside = r .inside; is = r .is }
+    go (no p) ih = record { block = k; offset = l - length (gather f 0 k); below = omega arith; inside = omega (arith, s); is = omega arith }
+
+-- a list by its places is what a walk hands on that gives one thing at each
+pub list-gathered : {A : Type 0} (g : ℕ → A) (k : ℕ) → listOf g k ≡ gather (λ i. g i ∷ []) 0 k
+list-gathered g zero = sym (gather-none (λ i. g i ∷ []) 0 0 (omega arith))
+list-gathered g (suc k) =
+    let e : k + 1 ≡ suc k = omega arith in
+    ap (λ xs. xs ++ (g k ∷ [])) (list-gathered g k) ∙ sym (gather-last (λ i. g i ∷ []) 0 k (omega arith)) ∙ ap (λ (i : ℕ). gather (λ i. g i ∷ []) 0 i) e
