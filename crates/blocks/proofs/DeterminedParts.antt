@@ -1,0 +1,87 @@
+-- Any two outcomes that the contract of damping, a lookup or block access permits agree. `reads.Post` is the contract's own reading: at the
+-- arguments a, the result and the parameters as the call leaves them. Each is the general law `by-equation`. Assumes nothing.
+use mathlib.Core.Path.{_≡_, refl, ap}
+use mathlib.Core.Bool.{cond}
+use contract.Lifetimes.{Lfts}
+use denote.Ref.{now}
+use lib.Dec.{eqb}
+use lib.ListN.{getD}
+use lib.Ieee.{Float, nan}
+use Rattle.ground.proofs.DeterminedLaws.{by-equation}
+use Rattle.columns.specs.declared.refusal.Refusal.{Refusal}
+use Rattle.columns.specs.declared.refusal.Answer.{Answer}
+use Rattle.columns.specs.Refusals.{told}
+use Rattle.columns.proofs.RefusalLaws.{refusalOf, refusal-back, number-some, answerOf, answer-back}
+use Rattle.blocks.specs.declared.damping.Damping.{Damping}
+use Rattle.blocks.specs.declared.damping.DiagonalTerm.{DiagonalTerm}
+use Rattle.blocks.specs.declared.damping.DiagonalTerm.the-variants.{Term, Refused}
+use Rattle.blocks.specs.declared.partition.Number.{Number}
+use Rattle.blocks.specs.declared.partition.Within.{Within}
+use Rattle.blocks.specs.declared.partition.ColSlot.{ColSlot}
+use Rattle.blocks.specs.declared.eliminated_blocks.Place.{Place}
+use Rattle.blocks.specs.declared.eliminated_blocks.Entry.{Entry}
+use Rattle.blocks.specs.Damping.{Termed, termed}
+use Rattle.blocks.proofs.damping.Damping.identity.Reads as identity
+use Rattle.blocks.proofs.damping.Damping.check.Reads as check
+use Rattle.blocks.proofs.damping.Damping.term.Reads as plain
+use Rattle.blocks.proofs.damping.Damping.diagonal_term.Reads as diagonal
+use Rattle.blocks.proofs.partition.slot.Reads as slots
+use Rattle.blocks.proofs.partition.kept_local.Reads as kept
+use Rattle.blocks.proofs.partition.eliminated_local.Reads as eliminated
+use Rattle.blocks.proofs.partition.kept_offset.Reads as keptOffset
+use Rattle.blocks.proofs.partition.eliminated_offset.Reads as eliminatedOffset
+use Rattle.blocks.proofs.eliminated_blocks.block_place.Reads as places
+use Rattle.blocks.proofs.eliminated_blocks.block.Reads as blocks
+use Rattle.blocks.proofs.eliminated_blocks.dof.Reads as dofs
+use Rattle.blocks.proofs.eliminated_blocks.at.Reads as entries
+
+unfoldable termBack : Termed → DiagonalTerm
+termBack d = cond (eqb (d .told .number) 0) (Term (getD (d .terms) 0 nan)) (Refused (refusalOf (d .told)))
+
+term-back : (d : DiagonalTerm) → termBack (termed d) ≡ d
+unfolding termBack
+term-back (Term x) = refl
+term-back (Refused r) = rw (number-some r) (ap (λ (s : Refusal). Refused s) (refusal-back r))
+
+-- an answer that the promise names
+named : {Out : Type 0} (r a b : Out) → a ≡ r → b ≡ r → a ≡ b
+named r = by-equation (λ a. a) (λ a. a) (λ a. refl) r
+
+pub identity-of : (κs : Lfts 0) (a : _) (s t : _) (p q : Damping) → identity.Post κs a p s → identity.Post κs a q t → p ≡ q
+identity-of κs a s t p q = named _ p q
+
+pub check-damping : (κs : Lfts 0) (a : _) (s t : _) (p q : Answer) → check.Post κs a p s → check.Post κs a q t → p ≡ q
+check-damping κs a s t p q = by-equation told answerOf answer-back _ p q
+
+pub term-of : (κs : Lfts 0) (a : _) (s t : _) (p q : Float) → plain.Post κs a p s → plain.Post κs a q t → p ≡ q
+term-of κs a s t p q = named _ p q
+
+pub diagonal-term : (κs : Lfts 0) (a : _) (s t : _) (p q : DiagonalTerm) → diagonal.Post κs a p s → diagonal.Post κs a q t → p ≡ q
+diagonal-term κs a s t p q = by-equation termed termBack term-back _ p q
+
+pub slot : (κs : Lfts 2) (a : _) (s t : _) (p q : ColSlot) → slots.Post κs a p s → slots.Post κs a q t → p ≡ q
+slot κs a s t p q = named _ p q
+
+pub kept-local : (κs : Lfts 1) (a : _) (s t : _) (p q : Number) → kept.Post κs a p s → kept.Post κs a q t → p ≡ q
+kept-local κs a s t p q = named _ p q
+
+pub eliminated-local : (κs : Lfts 1) (a : _) (s t : _) (p q : Within) → eliminated.Post κs a p s → eliminated.Post κs a q t → p ≡ q
+eliminated-local κs a s t p q = named _ p q
+
+pub kept-offset : (κs : Lfts 1) (a : _) (s t : _) (p q : Number) → keptOffset.Post κs a p s → keptOffset.Post κs a q t → p ≡ q
+kept-offset κs a s t p q = named _ p q
+
+pub eliminated-offset : (κs : Lfts 1) (a : _) (s t : _) (p q : Number) → eliminatedOffset.Post κs a p s → eliminatedOffset.Post κs a q t → p ≡ q
+eliminated-offset κs a s t p q = named _ p q
+
+pub block-place : (κs : Lfts 1) (a : _) (s t : _) (p q : Place) → places.Post κs a p s → places.Post κs a q t → p ≡ q
+block-place κs a s t p q = named _ p q
+
+pub block : (κs : Lfts 2) (a : _) (s t : _) (p q : _) → blocks.Post κs a p s → blocks.Post κs a q t → now p ≡ now q
+block κs a s t p q = named _ (now p) (now q)
+
+pub dof : (κs : Lfts 1) (a : _) (s t : _) (p q : Number) → dofs.Post κs a p s → dofs.Post κs a q t → p ≡ q
+dof κs a s t p q = named _ p q
+
+pub at : (κs : Lfts 2) (a : _) (s t : _) (p q : Entry) → entries.Post κs a p s → entries.Post κs a q t → p ≡ q
+at κs a s t p q = named _ p q
