@@ -120,7 +120,8 @@ def block_calls(c):
         eliminated.add('an empty column')
     yield 11, call, done + [values], eliminated | {f'{x} in the answers' for x in odd(values)}
     damp = c.get('in.damp')
-    if damp and c['out.damped'] is not None:
+    # where no eliminated block has a column the original clamps nothing, and so does not look at the limits
+    if damp and c['out.damped'] is not None and number(damp[1]) <= number(damp[2]):
         eliminated |= {f'{x} in the damping' for x in odd(damp)}
         yield 12, call, done + [c['out.damped'], values, damp], eliminated | {f'{x} in the answers' for x in odd(c['out.damped'])}
 

@@ -98,9 +98,13 @@ def show(name, rows, n, kept, elims, order, value, damping):
         ptr.append(len(row))
     print('case', 'blocks.' + name)
     for key, numbers in (('rows', [rows]), ('cols', [n]), ('L', [3]), ('order', [order]), ('ptr', ptr), ('row', row),
-                         ('kept', [x for b in kept for x in b]), ('elim', [x for b in elims for x in b])):
+                         ('kept', [x for b in kept for x in b]), ('elim', [x for b in elims for x in b]), ('pairs', [])):
         print(' '.join(map(str, ['in.' + key, 'u', len(numbers), *numbers])))
-    for key, floats in (('val', val), ('damp', damping), ('h', DIAGONALS + list(damping[1:]))):
+    # the vectors of the products, which blocks take no notice of, are all 1.0
+    dofs = [sum(d for _, d in side) for side in (kept, elims)]
+    lengths = {'inv': sum(d * d for _, d in elims), 'v': dofs[0], 'd': dofs[0], 'dk': dofs[0], 'u': dofs[1], 'rhs': dofs[1], 'de': dofs[1],
+               'lent': rows, 'r': rows, 'x': n}
+    for key, floats in (('val', val), ('damp', damping), ('h', DIAGONALS + list(damping[1:])), *((k, [1.0] * m) for k, m in lengths.items())):
         print(' '.join(map(str, ['in.' + key, 'f', len(floats), *map(bits, floats)])))
     print('end')
 
