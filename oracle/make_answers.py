@@ -8,23 +8,27 @@ import struct
 import subprocess
 import sys
 
+import block_answers
+
 HERE = os.path.dirname(os.path.abspath(__file__))
 ORACLE = os.path.join(HERE, 'target/release/oracle')
 GEN = ['gen', '--seed', '2607', '--count', '120', '--rows', '30', '--cols', '12', '--alt', '0']
+BAD = ['gen', '--seed', '2608', '--count', '70', '--rows', '6', '--cols', '10', '--alt', '0', '--bad', '100']
+BLOCKS = 60     # the layer `blocks` takes so many random cases; of the hand-made ones all
 PAIRS = 2       # column_dot: at most so many pairs of a random case; of a hand-made one all
 MOST = 512      # crates/replay's room for one list
-ENOUGH = 100    # answers for each function
+ENOUGH = 100    # cases of each function of jacobian_ops.rs
+ENOUGH_BLOCKS = 40      # and of each kind of the layer above
 NAMES = {1: 'column_dot', 2: 'jt_vec', 3: 'diag_jt_j', 4: 'jt_j_vec_product'}
 NAN = 0x7ff8000000000000
 UNWRITTEN = -12345.678      # what crates/replay's buffers hold before a call
 
 
 class Case:
-    """One call: its kind, its lists as words, and what the counts look at."""
+    """One case: its kind and its lists as words."""
 
-    def __init__(self, kind, inputs, answers, values, vector, empty):
+    def __init__(self, kind, inputs, answers):
         self.kind, self.lists, self.answers = kind, inputs + answers, [w for a in answers for w in a]
-        self.values, self.vector, self.empty, self.all_empty, self.no_rows = values, vector, empty, not inputs[2], inputs[0] == [0]
         if max(map(len, self.lists)) > MOST:
             sys.exit('a list is longer than crates/replay has room for')
         if struct.unpack('<Q', struct.pack('<d', UNWRITTEN))[0] in self.answers:
@@ -33,6 +37,22 @@ class Case:
     def words(self):
         body = [w for l in self.lists for w in [len(l), *l]]
         return [self.kind, 2 + len(body), *body]
+
+
+class ColumnCase(Case):
+    """One call over columns alone, and what the counts look at."""
+
+    def __init__(self, kind, inputs, answers, values, vector, empty):
+        super().__init__(kind, inputs, answers)
+        self.values, self.vector, self.empty, self.all_empty, self.no_rows = values, vector, empty, not inputs[2], inputs[0] == [0]
+
+
+class BlockCase(Case):
+    """One case of the layer `blocks`, and the rows of the table that it belongs to."""
+
+    def __init__(self, kind, inputs, answers, facts):
+        super().__init__(kind, inputs, answers)
+        self.facts = facts
 
 
 def oracle_cases(text):
@@ -64,13 +84,13 @@ def calls(c, pairs):
         for k, dot in enumerate(c['out.dot'][:pairs]):
             pair = c['in.pairs'][2 * k:2 * k + 2]
             named = [spans[j] for j in pair]
-            yield Case(1, columns + [pair], [[dot]], [v for a, b in named for v in val[a:b]], None, any(a == b for a, b in named))
+            yield ColumnCase(1, columns + [pair], [[dot]], [v for a, b in named for v in val[a:b]], None, any(a == b for a, b in named))
     if c['out.jtv'] is not None:
-        yield Case(2, columns + [c['in.r']], [c['out.jtv']], val, c['in.r'], some_empty)
+        yield ColumnCase(2, columns + [c['in.r']], [c['out.jtv']], val, c['in.r'], some_empty)
     if c['out.diag'] is not None:
-        yield Case(3, columns, [c['out.diag']], val, None, some_empty)
+        yield ColumnCase(3, columns, [c['out.diag']], val, None, some_empty)
     if c['out.jtj'] is not None and c.get('out.jtj.rows') is not None:
-        yield Case(4, columns + [c['in.x']], [c['out.jtj.rows'], c['out.jtj']], val, c['in.x'], some_empty)
+        yield ColumnCase(4, columns + [c['in.x']], [c['out.jtj.rows'], c['out.jtj']], val, c['in.x'], some_empty)
 
 
 def number(w):
@@ -120,6 +140,26 @@ def count(cases):
         sys.exit('a count is too small')
 
 
+def count_blocks(cases):
+    """The same for the layer `blocks`: a row that a kind must have a case of must not be 0 there."""
+    names = ['cases']
+    for kind in block_answers.NAMES:
+        names += [r for r in block_answers.rows(kind) if r not in names]
+    missing = False
+    print(f'{"cases with":38}', *(f'{n:>17}' for n in block_answers.NAMES.values()))
+    for row in names:
+        line = f'{row:38}'
+        for kind in block_answers.NAMES:
+            n = sum(c.kind == kind and (row == 'cases' or row in c.facts) for c in cases)
+            missing |= n != 0 and row in block_answers.never(kind)
+            asked = row == 'cases' or row in block_answers.rows(kind)
+            missing |= asked and n < (ENOUGH_BLOCKS if row == 'cases' else 1)
+            line += f' {n if asked else "-":>17}'
+        print(line)
+    if missing:
+        sys.exit('a count is too small')
+
+
 def flip(cases):
     """The first jt_vec case of the second half with a finite answer that is not 0 or subnormal: its number, the answer's, and its words with the
     lowest bit of that answer flipped."""
@@ -151,10 +191,16 @@ def run(*words, stdin=''):
 def main():
     hand = run(sys.executable, os.path.join(HERE, 'hand_cases.py'))
     cases = [k for c in oracle_cases(run(ORACLE, 'run', stdin=hand)) for k in calls(c, MOST)]
-    cases += [k for c in oracle_cases(run(ORACLE, *GEN)) for k in calls(c, PAIRS)]
+    random = list(oracle_cases(run(ORACLE, *GEN)))
+    cases += [k for c in random for k in calls(c, PAIRS)]
+    hand = run(sys.executable, os.path.join(HERE, 'hand_blocks.py'))
+    refused = [c for c in oracle_cases(run(ORACLE, *BAD)) if c['out.partition'] != [0]]
+    blocks = [BlockCase(*k) for c in [*oracle_cases(run(ORACLE, 'run', stdin=hand)), *random[:BLOCKS]] for k in block_answers.calls(c)]
+    blocks += [BlockCase(*k) for c in refused for k in block_answers.refusal(c)]
     count(cases)
-    good = [c.words() for c in cases]
+    count_blocks(blocks)
     at, place, bad = flip(cases)
+    good = [c.words() for c in cases + blocks]
     write('answers', good)
     write('flipped', good[:at] + [bad] + good[at + 1:])
     print(f'flipped: case {at} ({NAMES[cases[at].kind]}, cases count from 0), lowest bit of answer {place}')

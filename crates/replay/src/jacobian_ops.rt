@@ -1,7 +1,6 @@
 // Kinds 1 to 4: the functions of jacobian_ops.rs. A case's lists 0 to 3 are the columns: the row count, the pointers, the row numbers and the
 // values. Then come the other inputs, and the answers. A call that is refused gives no answer, and so differs.
 use crate::kinds::COUNTS;
-use crate::kinds::Outcome;
 use crate::kinds::write_count;
 use crate::list::f64_room;
 use crate::list::list;
@@ -9,8 +8,6 @@ use crate::list::number;
 use crate::list::places;
 use crate::list::same;
 use crate::list::take_f64;
-use crate::list::take_u32;
-use crate::list::u32_room;
 use crate::list::well_formed;
 use columns::jacobian_ops::Dot;
 use columns::jacobian_ops::column_dot;
@@ -102,35 +99,14 @@ fn same_by_kind(
 }
 
 // Takes list 4 as a vector, which it is in kinds 2 and 4; the others do not read it.
-fn take_vector(kind: u64, case: &[u64], ptrs: &[u32], rows: &[u32], values: &[f64]) -> bool {
+pub fn take_vector(kind: u64, case: &[u64], ptrs: &[u32], rows: &[u32], values: &[f64]) -> bool {
     let mut room = f64_room();
     let n = take_f64(case, 4, &mut room);
     same_by_kind(kind, case, ptrs, rows, values, &room[..n])
 }
 
-// Takes the values, and goes on.
-fn take_values(kind: u64, case: &[u64], ptrs: &[u32], rows: &[u32]) -> bool {
-    let mut room = f64_room();
-    let n = take_f64(case, 3, &mut room);
-    take_vector(kind, case, ptrs, rows, &room[..n])
-}
-
-// Takes the row numbers, and goes on.
-fn take_rows(kind: u64, case: &[u64], ptrs: &[u32]) -> bool {
-    let mut room = u32_room();
-    let n = take_u32(case, 2, &mut room);
-    take_values(kind, case, ptrs, &room[..n])
-}
-
-// Takes the pointers, and goes on.
-fn take_ptrs(kind: u64, case: &[u64]) -> bool {
-    let mut room = u32_room();
-    let n = take_u32(case, 1, &mut room);
-    take_rows(kind, case, &room[..n])
-}
-
 // Whether a case has the lists of its kind.
-fn has_lists(kind: u64, case: &[u64]) -> bool {
+pub fn has_lists(kind: u64, case: &[u64]) -> bool {
     if list(case, 0).len() != 1 {
         return false;
     }
@@ -141,17 +117,6 @@ fn has_lists(kind: u64, case: &[u64]) -> bool {
         4 => well_formed(case, 7),
         _ => false,
     }
-}
-
-// Replays a case of one of these kinds.
-pub fn replay(kind: u64, case: &[u64]) -> Outcome {
-    if !has_lists(kind, case) {
-        return Outcome::Malformed;
-    }
-    if take_ptrs(kind, case) {
-        return Outcome::Same;
-    }
-    Outcome::Differs
 }
 
 // Writes how many cases of these kinds were compared.

@@ -86,6 +86,15 @@ pub fn well_formed(case: &[u64], lists: usize) -> bool {
     place(case, lists) == case.len()
 }
 
+// Whether number i of list k is x.
+pub fn is(case: &[u64], k: usize, i: usize, x: usize) -> bool {
+    let numbers = list(case, k);
+    if i < numbers.len() {
+        return numbers[i] == x as u64;
+    }
+    false
+}
+
 // Number i of list k; 0 where there is none.
 pub fn number(case: &[u64], k: usize, i: usize) -> usize {
     let numbers = list(case, k);
@@ -115,6 +124,15 @@ pub fn places(case: &[u64], k: usize, to: &[f64]) -> usize
     ensures { λ r. ⌜ Counts r (now (to .entry)) ⌝ }
 {
     least(list(case, k).len(), to.len())
+}
+
+// Number i of list k as a float; 0.0 where there is none.
+pub fn float_at(case: &[u64], k: usize, i: usize) -> f64 {
+    let numbers = list(case, k);
+    if i < numbers.len() {
+        return float(numbers[i]);
+    }
+    0.0
 }
 
 // Takes list k as list numbers, and answers how many.
@@ -149,6 +167,25 @@ pub fn same(got: &[f64], case: &[u64], k: usize) -> bool {
     }
     for i in 0..got.len() {
         if pattern(got[i]) != expected[i] {
+            return false;
+        }
+    }
+    true
+}
+
+// A list number as a word.
+fn word(x: u32) -> u64 {
+    x as u64
+}
+
+// Whether list numbers are those of list k.
+pub fn same_u32(got: &[u32], case: &[u64], k: usize) -> bool {
+    let expected = list(case, k);
+    if got.len() != expected.len() {
+        return false;
+    }
+    for i in 0..got.len() {
+        if word(got[i]) != expected[i] {
             return false;
         }
     }

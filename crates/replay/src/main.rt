@@ -2,10 +2,14 @@
 // with what the original gave, bit for bit, with NaN as NaN. `answers` is as the original answered; `flipped` has one bit of one answer
 // changed, so that the comparison is seen to find it.
 mod bits;
+mod block_values;
+mod damping;
 mod jacobian_ops;
 mod kinds;
 mod list;
+mod partition;
 mod tally;
+mod with_columns;
 
 use list::take_words;
 use tally::Tally;
