@@ -1,0 +1,3 @@
+// Blocks: partition.rs over the columns' promises. The check of both sides and the column map, lookups, block access, the gather of block
+// values and their damping.
+pub mod check;
