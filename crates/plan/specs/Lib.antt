@@ -1,0 +1,3 @@
+pub mod Owners
+pub mod Lists
+pub mod Spans
