@@ -8,7 +8,7 @@ use Rattle.ground.specs.First.{firstN, first}
 use Rattle.ground.specs.Gather.{gatherN, gather}
 use Rattle.columns.specs.Refusals.{Told, tell, done, onPass}
 use Rattle.columns.specs.Lengths.{pairBad, pairsTold}
-use Rattle.columns.specs.Columns.{Columns, columnsOf, firstIn, endIn, tooBig, falls, badShape, rowBad, columnBad, badRow, checked}
+use Rattle.columns.specs.Columns.{Columns, columnsOf, firstIn, endIn, tooBig, falls, badShape, rowBad, rowFalls, columnBad, badRow, checked}
 use Rattle.columns.specs.Sums.{zero₊}
 use Rattle.blocks.specs.Sides.{blockColumns}
 use Rattle.blocks.specs.Claims.{
@@ -85,5 +85,5 @@ pub worked : map run cases
     ∷ left (tell 9 (1 ∷ [])) marks
     ∷ left done (0 ∷ 1 ∷ 2 ∷ 7 ∷ [])
     ∷ []
-unfolding firstN first gatherN gather onPass pairBad pairsTold firstIn endIn tooBig falls badShape rowBad columnBad badRow checked blockColumns tooMany isOdd listsTold emptySide earlyTold blockClaims placeOf claimBad walkTold gapTold blocksTold mapLeft checkBlocks
+unfolding firstN first gatherN gather onPass pairBad pairsTold firstIn endIn tooBig falls badShape rowBad rowFalls columnBad badRow checked blockColumns tooMany isOdd listsTold emptySide earlyTold blockClaims placeOf claimBad walkTold gapTold blocksTold mapLeft checkBlocks
 worked = refl
