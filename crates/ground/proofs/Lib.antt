@@ -4,5 +4,7 @@ pub mod GatherLaws
 pub mod FoldLaws
 pub mod FirstLaws
 pub mod ListLaws
+pub mod BucketLaws
+pub mod BucketRules
 pub mod DeterminedLaws
 pub mod Rules
