@@ -3,6 +3,7 @@ pub mod RangeLaws
 pub mod GatherLaws
 pub mod FoldLaws
 pub mod FirstLaws
+pub mod EachLaws
 pub mod ListLaws
 pub mod BucketLaws
 pub mod BucketRules

@@ -1,13 +1,13 @@
 -- The owner of a row, and refusal 10. Assumes nothing.
 use mathlib.Core.Bool.{Bool, not, _&&_, cond}
-use mathlib.Core.List.{List, [], _∷_}
+use mathlib.Core.List.{List, [], _∷_, _++_}
 use Prim.Native.Nat.{ℕ, _+_}
 use lib.Dec.{eqb, ltb}
-use lib.ListN.{length, getD}
+use lib.ListN.{length, getD, replicate, drop}
 use Rattle.ground.specs.First.{first, some}
 use Rattle.ground.specs.Gather.{gather, listOf}
-use Rattle.columns.specs.Refusals.{Told, tell, done}
-use Rattle.columns.specs.Columns.{Columns, firstPlace, endPlace}
+use Rattle.columns.specs.Refusals.{Told, tell, done, onPass}
+use Rattle.columns.specs.Columns.{Columns, columnsOf, firstIn, endIn, firstPlace, endPlace}
 use Rattle.blocks.specs.Sides.{blockCount, firstOf, dofOf}
 use Rattle.blocks.specs.Claims.{mark}
 
@@ -33,18 +33,19 @@ pub record Entry : Type 0 where
 abbrev pub entry : ℕ → ℕ → Entry
 entry r b = record { row = r; block = b }
 
-unfoldable pub entryAt : Columns → ℕ → ℕ → List Entry
-entryAt m b p = entry (getD (m .rows) p 0) b ∷ []
+-- that at place p, of block b
+unfoldable pub entryAt : List ℕ → ℕ → ℕ → List Entry
+entryAt rows b p = entry (getD rows p 0) b ∷ []
 
-unfoldable pub columnEntries : Columns → ℕ → ℕ → List Entry
-columnEntries m b j = gather (entryAt m b) (firstPlace m j) (endPlace m j)
+unfoldable pub columnEntries : List ℕ → List ℕ → ℕ → ℕ → List Entry
+columnEntries ptrs rows b j = gather (entryAt rows b) (firstIn ptrs j) (endIn ptrs j)
 
-unfoldable pub blockEntries : Columns → List ℕ → ℕ → List Entry
-blockEntries m side b = gather (λ i. columnEntries m b (firstOf side b + i)) 0 (dofOf side b)
+unfoldable pub blockEntries : List ℕ → List ℕ → List ℕ → ℕ → List Entry
+blockEntries ptrs rows side b = gather (λ i. columnEntries ptrs rows b (firstOf side b + i)) 0 (dofOf side b)
 
 -- blocks, columns and entries in order
 abbrev pub sideEntries : Columns → List ℕ → List Entry
-sideEntries m side = gather (blockEntries m side) 0 (blockCount side)
+sideEntries m side = gather (blockEntries (m .ptrs) (m .rows) side) 0 (blockCount side)
 
 abbrev pub entryIn : List Entry → ℕ → Entry
 entryIn es k = getD es k (entry 0 0)
@@ -68,3 +69,21 @@ connectedTold es =
 -- the owners of the rows
 abbrev pub ownerList : Columns → List ℕ → List ℕ
 ownerList m elims = listOf (ownerOf m elims) (m .nrows)
+
+-- ---- the call
+
+-- columns without their values, which no owner looks at
+abbrev pub patternOf : ℕ → List ℕ → List ℕ → Columns
+patternOf nrows ptrs rows = columnsOf nrows ptrs rows []
+
+-- what a call tells, and what it leaves in the owners
+pub record Owned : Type 0 where
+  pub told : Told
+  pub owners : List ℕ
+
+-- the rows' owners, or after 10 the mark for each row; places past the rows hold what they held
+unfoldable pub ownersOf : Columns → List ℕ → List ℕ → Owned
+ownersOf m elims owners = record {
+  told = connectedTold (sideEntries m elims);
+  owners = onPass (connectedTold (sideEntries m elims)) (ownerList m elims) (replicate (m .nrows) mark) ++ drop (m .nrows) owners;
+}
