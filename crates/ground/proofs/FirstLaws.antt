@@ -3,6 +3,7 @@ use mathlib.Core.Path.{_≡_, refl, sym, _∙_}
 use mathlib.Core.Bool.{Bool, true, false, _||_, cond}
 use Prim.Native.Nat.{ℕ, zero, suc, _+_, _-_, _≤_, _<_}
 use native.Mathlib.Nat.{le-antisymm, le-trans, le-of-eq}
+use native.Mathlib.Decide.{decLt}
 use native.Mathlib.Omega.{arith}
 use lib.Dec.{ltb}
 use borrow.Author.Tests.{lt-ltb, le-ltb, ltb-true, ltb-false}
@@ -129,6 +130,30 @@ module _ (bad : ℕ → Bool) where
       go : (b : Bool) → some bad lo hi ≡ b → some bad lo hi ≡ true
       go true p = p
       go false p = let z : _≡_ {A = ℕ} 0 1 = cc (past-none lo hi p k l h, e) in absurd (omega arith)
+
+  -- a place where it holds, and nowhere before
+  pub first-is : (lo hi k : ℕ) → lo ≤ k → k < hi → bad k ≡ true → None bad lo k → first bad lo hi ≡ k
+  first-is lo hi k l h e none = go (decLt (first bad lo hi) k) (decLt k (first bad lo hi))
+    where
+      go : Dec (first bad lo hi < k) → Dec (k < first bad lo hi) → first bad lo hi ≡ k
+      go (yes p) q = let z : _≡_ {A = ℕ} 0 1 = cc (none (first bad lo hi) (first-low lo hi) p, first-bad lo hi (omega arith)) in absurd (omega arith)
+      go (no p) (yes q) = let z : _≡_ {A = ℕ} 0 1 = cc (first-before lo hi k l q, e) in absurd (omega arith)
+      go (no p) (no q) = omega arith
+
+  -- one place more
+  pub first-more : (k : ℕ) → first bad 0 (k + 1) ≡ cond (some bad 0 k) (first bad 0 k) (cond (bad k) k (k + 1))
+  first-more k = go (some bad 0 k) refl (bad k) refl
+    where
+      go : (a : Bool) → some bad 0 k ≡ a → (b : Bool) → bad k ≡ b → first bad 0 (k + 1) ≡ cond a (first bad 0 k) (cond b k (k + 1))
+      go true e b f =
+          let h = ltb-true (first bad 0 k) k e in
+          first-is 0 (k + 1) (first bad 0 k) (omega arith) (omega arith) (first-bad 0 k h) (first-before 0 k)
+      go false e true f = first-is 0 (k + 1) k (omega arith) (omega arith) f (past-none 0 k e)
+      go false e false f = first-past 0 (k + 1) (omega arith) (λ i l h. at i (decLt i k) h)
+        where
+          at : (i : ℕ) → Dec (i < k) → i < k + 1 → bad i ≡ false
+          at i (yes p) h = past-none 0 k e i (omega arith) p
+          at i (no p) h = let q : i ≡ k = omega arith in rw q f
 
 -- it is no later than the end
 module _ (bad : ℕ → Bool) where

@@ -3,6 +3,9 @@ pub mod RangeLaws
 pub mod GatherLaws
 pub mod FoldLaws
 pub mod FirstLaws
+pub mod EachLaws
 pub mod ListLaws
+pub mod BucketLaws
+pub mod BucketRules
 pub mod DeterminedLaws
 pub mod Rules

@@ -3,3 +3,4 @@ pub mod Gather
 pub mod Fold
 pub mod First
 pub mod Determined
+pub mod Buckets

@@ -1,0 +1,4 @@
+-- The laws of specs/, and what the code's steps show of them.
+pub mod OwnerRules
+pub mod OwnerLaws
+pub mod OwnerCalls

@@ -1,0 +1,4 @@
+pub mod Owners
+pub mod OwnerWalk
+pub mod Lists
+pub mod Spans
