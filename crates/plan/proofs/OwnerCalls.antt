@@ -1,4 +1,6 @@
 -- What the calls of `row_owners` come to, and what gives it its `requires`: columns and blocks that passed their checks. Assumes nothing.
+use Rattle.ground.proofs.ListLaws.{listOf-same}
+use Rattle.ground.proofs.FirstLaws.{first-high}
 use borrow.Author.Needs.{needs}
 use mathlib.Core.Path.{_≡_, refl, sym, ap, _∙_}
 use mathlib.Core.Bool.{Bool, true}
@@ -23,7 +25,6 @@ use Rattle.columns.proofs.RefusalLaws.{pass-refused, passed}
 use Rattle.columns.proofs.CheckLaws.{column-there, column-run}
 use Rattle.blocks.specs.Sides.{blockCount, firstOf, dofOf, HasAt}
 use Rattle.blocks.specs.Claims.{mark, marked, Parted}
-use Rattle.blocks.proofs.PlaceLaws.{first-high, listOf-same}
 use Rattle.blocks.proofs.WalkRules.{marked-all}
 use Rattle.plan.specs.Owners.{
   inColumn,

@@ -1,5 +1,6 @@
 -- The walk of 10 tells and leaves what specs/Owners.antt says. Before entry k each row is held by the block of the first entry in it, if one came,
 -- so the walk stops at the first clash and nowhere else; and a row's first entry is of its first block, since blocks come in order. Assumes nothing.
+use Rattle.ground.proofs.ListLaws.{listOf-same, set-listOf, listOf-all, getD-front}
 use mathlib.Core.Path.{_≡_, refl, sym, ap, _∙_, subst}
 use mathlib.Core.Bool.{Bool, true, false, not, _&&_, cond}
 use mathlib.Core.List.{List, [], _∷_, _++_}
@@ -23,7 +24,6 @@ use Rattle.columns.specs.Refusals.{Told, tell, done}
 use Rattle.columns.specs.Columns.{Columns, firstIn, endIn}
 use Rattle.blocks.specs.Sides.{blockCount, firstOf, dofOf}
 use Rattle.blocks.specs.Claims.{mark}
-use Rattle.blocks.proofs.PlaceLaws.{listOf-same, set-listOf, listOf-all, getD-front}
 use Rattle.plan.specs.Owners.{
   inColumn,
   inBlock,
