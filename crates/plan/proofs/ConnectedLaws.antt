@@ -17,20 +17,7 @@ use Rattle.columns.specs.Columns.{Columns, firstIn, endIn, firstPlace, endPlace
 use Rattle.columns.proofs.RefusalLaws.{passed}
 use Rattle.blocks.specs.Sides.{blockCount, firstOf, dofOf}
 use Rattle.blocks.specs.Claims.{mark}
-use Rattle.plan.specs.Owners.{
-  inColumn,
-  inBlock,
-  ownerOf,
-  Entry,
-  entry,
-  sideEntries,
-  entryIn,
-  holder,
-  clashes,
-  firstClash,
-  connectedTold,
-  Connects,
-}
+use Rattle.plan.specs.Owners.{inColumn, inBlock, ownerOf, Entry, entry, sideEntries, entryIn, holder, clashes, firstClash, connectedTold, Connects}
 use Rattle.plan.proofs.OwnerLaws.{inRow, heldAt, held-first, clash-some, clash-differs, clash-none, owner-held, side-all, side-each}
 
 -- ---- entries and blocks
@@ -123,7 +110,7 @@ module _ (m : Columns) (elims : List ℕ) where
 
   pub connects-told : Connects m elims → connectedTold es .number ≡ 10
   unfolding connectedTold
-  connects-told c = go (ltb (firstClash es) (length es)) refl (owner-is)
+  connects-told c = go (ltb (firstClash es) (length es)) refl owner-is
     where
       go : (b : Bool) → ltb (firstClash es) (length es) ≡ b → (Passes (connectedTold es) → (r b : ℕ) → b < blockCount elims → inBlock m elims r b ≡ true → ownerOf m elims r ≡ b)
           → cond b (tell 10 (entryIn es (firstClash es) .block ∷ entryIn es (holder es (firstClash es)) .block ∷ [])) done .number ≡ 10

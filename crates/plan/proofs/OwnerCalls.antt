@@ -1,15 +1,16 @@
 -- What the calls of `row_owners` come to, and what gives it its `requires`: columns and blocks that passed their checks. Assumes nothing.
 use borrow.Author.Needs.{needs}
 use mathlib.Core.Path.{_≡_, refl, sym, ap, _∙_}
-use mathlib.Core.Bool.{true}
+use mathlib.Core.Bool.{true, false}
 use mathlib.Core.List.{List, _++_}
 use Prim.Native.Nat.{ℕ, _+_, _-_, _≤_, _<_}
 use native.Mathlib.Nat.{le-antisymm, le-trans}
 use native.Mathlib.Omega.{arith}
+use lib.Dec.{ltb}
 use lib.ListN.{length, drop, replicate, length-append}
 use lib.Seq.{drop-at}
 use lib.Ieee.{Float}
-use borrow.Author.Tests.{ltb-false}
+use borrow.Author.Tests.{ltb-false, ne-eqb}
 use Rattle.ground.specs.Fold.{All}
 use Rattle.ground.specs.Gather.{listOf}
 use Rattle.ground.proofs.EachLaws.{all-at}
@@ -17,7 +18,7 @@ use Rattle.ground.proofs.GatherLaws.{length-listOf}
 use Rattle.columns.specs.declared.refusal.Refusal.{Refusal}
 use Rattle.columns.specs.declared.refusal.Answer.{Answer}
 use Rattle.columns.specs.declared.refusal.Answer.the-variants.{Done, Refused}
-use Rattle.columns.specs.Refusals.{Told, done, refused, told, onPass}
+use Rattle.columns.specs.Refusals.{Told, done, refused, told, Passes, onPass}
 use Rattle.columns.specs.Columns.{Columns, columnsOf, Keeps}
 use Rattle.columns.proofs.RefusalLaws.{pass-refused, passed}
 use Rattle.columns.proofs.CheckLaws.{column-there, column-run}
@@ -25,25 +26,7 @@ use Rattle.blocks.specs.Sides.{firstOf}
 use Rattle.blocks.specs.Claims.{mark, marked, Parted}
 use Rattle.blocks.proofs.PlaceLaws.{first-high, listOf-same}
 use Rattle.blocks.proofs.WalkRules.{marked-all}
-use Rattle.plan.specs.Owners.{
-  inColumn,
-  inBlock,
-  Entry,
-  entry,
-  Owned,
-  entryAt,
-  columnEntries,
-  blockEntries,
-  sideEntries,
-  entryIn,
-  clashes,
-  firstClash,
-  connectedTold,
-  ownerOf,
-  ownerList,
-  patternOf,
-  ownersOf,
-}
+use Rattle.plan.specs.Owners.{inColumn, inBlock, Entry, entry, Owned, sideEntries, clashes, firstClash, connectedTold, ownerOf, ownerList, patternOf, ownersOf}
 use Rattle.plan.specs.OwnerWalk.{owned, claimed, ColumnIn, SideIn, OwnersIn}
 use Rattle.plan.proofs.OwnerLaws.{heldAt, walk-is, side-all, owner-held}
 
@@ -103,6 +86,21 @@ module _ (m : Columns) (elims o : List ℕ) (f : OwnersIn m elims (length o)) wh
         let d : drop (m .nrows) o₂ ≡ rest = ap (drop (m .nrows)) walked-owners ∙ drop-at (listOf (heldAt es (firstClash es)) (m .nrows)) rest (m .nrows) k in
         let h : m .nrows ≤ length o₂ = rw (walked-owners, length-append, k) (omega arith) in
         rw (← e, pass-refused r (ownerList m elims) (replicate (m .nrows) mark), q, marked-all (m .nrows) o₂ h, d)
+
+-- ---- what a call leaves, by what it tells
+
+module _ (m : Columns) (elims o : List ℕ) where
+  pub told-pass : Passes (connectedTold (sideEntries m elims)) → connectedTold (sideEntries m elims) ≡ done
+  unfolding connectedTold
+  told-pass p = let e : ltb (firstClash (sideEntries m elims)) (length (sideEntries m elims)) ≡ false = passed _ 9 _ done p .0 in rw e
+
+  pub left-pass : Passes (connectedTold (sideEntries m elims)) → ownersOf m elims o .owners ≡ ownerList m elims ++ drop (m .nrows) o
+  unfolding ownersOf onPass
+  left-pass p = rw (told-pass p)
+
+  pub left-refused : (Passes (connectedTold (sideEntries m elims)) → ⊥) → ownersOf m elims o .owners ≡ replicate (m .nrows) mark ++ drop (m .nrows) o
+  unfolding ownersOf onPass
+  left-refused ne = rw (ne-eqb (connectedTold (sideEntries m elims) .number) 0 ne)
 
 -- ---- what it asks
 

@@ -23,24 +23,7 @@ use Rattle.columns.specs.Columns.{Columns, firstIn, endIn}
 use Rattle.blocks.specs.Sides.{blockCount, firstOf, dofOf}
 use Rattle.blocks.specs.Claims.{mark}
 use Rattle.blocks.proofs.PlaceLaws.{listOf-same, set-listOf, listOf-all, getD-front}
-use Rattle.plan.specs.Owners.{
-  inColumn,
-  inBlock,
-  ownerOf,
-  Entry,
-  entry,
-  Owned,
-  entryAt,
-  columnEntries,
-  blockEntries,
-  sideEntries,
-  entryIn,
-  holder,
-  clashes,
-  firstClash,
-  connectedTold,
-  ownerList,
-}
+use Rattle.plan.specs.Owners.{inColumn, inBlock, ownerOf, Entry, entry, entryAt, columnEntries, blockEntries, sideEntries, entryIn, holder, clashes, firstClash, connectedTold}
 use Rattle.plan.specs.OwnerWalk.{owned, claimOn, claimed}
 use Rattle.plan.proofs.OwnerRules.{step-free, step-own, step-held, stopped-all}
 
