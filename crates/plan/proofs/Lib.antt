@@ -2,3 +2,7 @@
 pub mod OwnerRules
 pub mod OwnerLaws
 pub mod OwnerCalls
+pub mod ConnectedLaws
+pub mod RowRules
+pub mod RowLaws
+pub mod Cases

@@ -3,50 +3,33 @@ use Rattle.ground.proofs.ListLaws.{listOf-same}
 use Rattle.ground.proofs.FirstLaws.{first-high}
 use borrow.Author.Needs.{needs}
 use mathlib.Core.Path.{_≡_, refl, sym, ap, _∙_}
-use mathlib.Core.Bool.{Bool, true}
-use mathlib.Core.List.{List, [], _∷_, _++_}
+use mathlib.Core.Bool.{true, false}
+use mathlib.Core.List.{List, _++_}
 use Prim.Native.Nat.{ℕ, _+_, _-_, _≤_, _<_}
 use native.Mathlib.Nat.{le-antisymm, le-trans}
 use native.Mathlib.Omega.{arith}
-use lib.ListN.{length, getD, drop, replicate, length-append, length-drop}
+use lib.Dec.{ltb}
+use lib.ListN.{length, drop, replicate, length-append}
 use lib.Seq.{drop-at}
 use lib.Ieee.{Float}
-use borrow.Author.Tests.{ltb-false}
+use borrow.Author.Tests.{ltb-false, ne-eqb}
 use Rattle.ground.specs.Fold.{All}
-use Rattle.ground.specs.Gather.{gather, listOf}
-use Rattle.ground.proofs.EachLaws.{all-gather, all-at}
+use Rattle.ground.specs.Gather.{listOf}
+use Rattle.ground.proofs.EachLaws.{all-at}
 use Rattle.ground.proofs.GatherLaws.{length-listOf}
 use Rattle.columns.specs.declared.refusal.Refusal.{Refusal}
 use Rattle.columns.specs.declared.refusal.Answer.{Answer}
 use Rattle.columns.specs.declared.refusal.Answer.the-variants.{Done, Refused}
 use Rattle.columns.specs.Refusals.{Told, done, refused, told, Passes, onPass}
-use Rattle.columns.specs.Columns.{Columns, columnsOf, columnCount, entryCount, firstIn, endIn, Keeps}
+use Rattle.columns.specs.Columns.{Columns, columnsOf, Keeps}
 use Rattle.columns.proofs.RefusalLaws.{pass-refused, passed}
 use Rattle.columns.proofs.CheckLaws.{column-there, column-run}
-use Rattle.blocks.specs.Sides.{blockCount, firstOf, dofOf, HasAt}
+use Rattle.blocks.specs.Sides.{firstOf}
 use Rattle.blocks.specs.Claims.{mark, marked, Parted}
 use Rattle.blocks.proofs.WalkRules.{marked-all}
-use Rattle.plan.specs.Owners.{
-  inColumn,
-  inBlock,
-  Entry,
-  entry,
-  Owned,
-  entryAt,
-  columnEntries,
-  blockEntries,
-  sideEntries,
-  entryIn,
-  clashes,
-  firstClash,
-  connectedTold,
-  ownerOf,
-  ownerList,
-  patternOf,
-  ownersOf,
-}
-use Rattle.plan.specs.OwnerWalk.{owned, claimed, RowsIn, ColumnIn, BlockIn, SideIn, OwnersIn}
-use Rattle.plan.proofs.OwnerLaws.{heldAt, walk-is, owner-held}
+use Rattle.plan.specs.Owners.{inColumn, inBlock, Entry, entry, Owned, sideEntries, clashes, firstClash, connectedTold, ownerOf, ownerList, patternOf, ownersOf}
+use Rattle.plan.specs.OwnerWalk.{owned, claimed, ColumnIn, SideIn, OwnersIn}
+use Rattle.plan.proofs.OwnerLaws.{heldAt, walk-is, side-all, owner-held}
 
 -- ---- the entries of blocks that are so
 
@@ -54,19 +37,11 @@ use Rattle.plan.proofs.OwnerLaws.{heldAt, walk-is, owner-held}
 abbrev Right : ℕ → Entry → Type 0
 Right n x = (x .row < n) × (x .block < 65_536)
 
-module _ (ptrs rows side : List ℕ) (n : ℕ) where
-  column-right : (b j : ℕ) → b < 65_536 → ColumnIn ptrs rows n j → All (Right n) (columnEntries ptrs rows b j)
-  unfolding columnEntries entryAt
-  column-right b j h f = all-gather (Right n) (entryAt rows b) (firstIn ptrs j) (endIn ptrs j) (λ p l g. ((f .inside .each p l g .below, h), tt))
-
-  block-right : (b : ℕ) → BlockIn ptrs rows side n b → All (Right n) (blockEntries ptrs rows side b)
-  unfolding blockEntries
-  block-right b f =
-      all-gather (Right n) (λ i. columnEntries ptrs rows b (firstOf side b + i)) 0 (dofOf side b) (λ i _ h.
-      column-right b (firstOf side b + i) (f .few) (f .columns i (firstOf side b + i) (record { block = f .there; offset = h; is = refl })))
-
 side-right : (m : Columns) (side : List ℕ) → SideIn (m .ptrs) (m .rows) side (m .nrows) → All (Right (m .nrows)) (sideEntries m side)
-side-right m side f = all-gather (Right (m .nrows)) (blockEntries (m .ptrs) (m .rows) side) 0 (blockCount side) (λ b _ h. block-right (m .ptrs) (m .rows) side (m .nrows) b (f .each b h))
+side-right m side f =
+    side-all m side (Right (m .nrows)) (λ b i p l h low high.
+    let g = f .each b l in
+    (g .columns i (firstOf side b + i) (record { block = l; offset = h; is = refl }) .inside .each p low high .below, g .few))
 
 -- ---- what the walk leaves
 
@@ -112,6 +87,21 @@ module _ (m : Columns) (elims o : List ℕ) (f : OwnersIn m elims (length o)) wh
         let d : drop (m .nrows) o₂ ≡ rest = ap (drop (m .nrows)) walked-owners ∙ drop-at (listOf (heldAt es (firstClash es)) (m .nrows)) rest (m .nrows) k in
         let h : m .nrows ≤ length o₂ = rw (walked-owners, length-append, k) (omega arith) in
         rw (← e, pass-refused r (ownerList m elims) (replicate (m .nrows) mark), q, marked-all (m .nrows) o₂ h, d)
+
+-- ---- what a call leaves, by what it tells
+
+module _ (m : Columns) (elims o : List ℕ) where
+  pub told-pass : Passes (connectedTold (sideEntries m elims)) → connectedTold (sideEntries m elims) ≡ done
+  unfolding connectedTold
+  told-pass p = let e : ltb (firstClash (sideEntries m elims)) (length (sideEntries m elims)) ≡ false = passed _ 9 _ done p .0 in rw e
+
+  pub left-pass : Passes (connectedTold (sideEntries m elims)) → ownersOf m elims o .owners ≡ ownerList m elims ++ drop (m .nrows) o
+  unfolding ownersOf onPass
+  left-pass p = rw (told-pass p)
+
+  pub left-refused : (Passes (connectedTold (sideEntries m elims)) → ⊥) → ownersOf m elims o .owners ≡ replicate (m .nrows) mark ++ drop (m .nrows) o
+  unfolding ownersOf onPass
+  left-refused ne = rw (ne-eqb (connectedTold (sideEntries m elims) .number) 0 ne)
 
 -- ---- what it asks
 

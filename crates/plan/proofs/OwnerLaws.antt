@@ -2,7 +2,7 @@
 -- so the walk stops at the first clash and nowhere else; and a row's first entry is of its first block, since blocks come in order. Assumes nothing.
 use Rattle.ground.proofs.ListLaws.{listOf-same, set-listOf, listOf-all, getD-front}
 use mathlib.Core.Path.{_≡_, refl, sym, ap, _∙_, subst}
-use mathlib.Core.Bool.{Bool, true, false, not, _&&_, cond}
+use mathlib.Core.Bool.{Bool, true, false, _&&_, cond}
 use mathlib.Core.List.{List, [], _∷_, _++_}
 use Prim.Native.Nat.{ℕ, zero, suc, _+_, _≤_, _<_}
 use native.Mathlib.Numerals.{add-one}
@@ -13,35 +13,17 @@ use lib.Seq.{drop-cons, drop-length, set-append-left}
 use borrow.Author.Tests.{lt-ltb, le-ltb, eq-eqb, ne-eqb, ltb-true, eqb-true, eqb-false, not-true, not-false}
 use Rattle.ground.specs.First.{first, some}
 use Rattle.ground.specs.Gather.{gather, listOf}
-use Rattle.ground.specs.Fold.{folded}
+use Rattle.ground.specs.Fold.{folded, All}
 use Rattle.ground.specs.Buckets.{bucket}
 use Rattle.ground.proofs.FirstLaws.{first-none, first-stop, first-turn, first-more}
-use Rattle.ground.proofs.FoldLaws.{folded-none}
 use Rattle.ground.proofs.GatherLaws.{length-listOf}
-use Rattle.ground.proofs.EachLaws.{Leads, leads-none, leads-one, leads-gather, leads-some, leads-same, all-gathered}
+use Rattle.ground.proofs.EachLaws.{all-gather, all-part, Leads, leads-none, leads-one, leads-gather, leads-some, leads-same, all-gathered}
 use Rattle.ground.proofs.BucketLaws.{bucket-gather}
-use Rattle.columns.specs.Refusals.{Told, tell, done}
+use Rattle.columns.specs.Refusals.{tell, done}
 use Rattle.columns.specs.Columns.{Columns, firstIn, endIn}
 use Rattle.blocks.specs.Sides.{blockCount, firstOf, dofOf}
 use Rattle.blocks.specs.Claims.{mark}
-use Rattle.plan.specs.Owners.{
-  inColumn,
-  inBlock,
-  ownerOf,
-  Entry,
-  entry,
-  Owned,
-  entryAt,
-  columnEntries,
-  blockEntries,
-  sideEntries,
-  entryIn,
-  holder,
-  clashes,
-  firstClash,
-  connectedTold,
-  ownerList,
-}
+use Rattle.plan.specs.Owners.{inColumn, inBlock, ownerOf, Entry, entry, entryAt, columnEntries, blockEntries, sideEntries, entryIn, holder, clashes, firstClash, connectedTold}
 use Rattle.plan.specs.OwnerWalk.{owned, claimOn, claimed}
 use Rattle.plan.proofs.OwnerRules.{step-free, step-own, step-held, stopped-all}
 
@@ -191,6 +173,26 @@ module _ (es : List Entry) where
     walk-is =
         ap (λ (l : List ℕ). claimed (l ++ rest) es) (sym (listOf-all (heldAt 0) n mark (λ r _. held-none 0 r (le-ltb (first (inRow r) 0 0) 0 (omega arith)))))
         ∙ walk-from (length es) 0 (omega arith) refl
+
+-- ---- the entries of a side, one by one
+
+-- P of each entry is P of each place of each column of each block, and the other way round
+module _ (m : Columns) (side : List ℕ) (P : Entry → Type 0) where
+  pub side-all : ((b i p : ℕ) → b < blockCount side → i < dofOf side b → firstIn (m .ptrs) (firstOf side b + i) ≤ p → p < endIn (m .ptrs) (firstOf side b + i) → P (entry (getD (m .rows) p 0) b))
+      → All P (sideEntries m side)
+  unfolding blockEntries columnEntries entryAt
+  side-all h =
+      all-gather P (blockEntries (m .ptrs) (m .rows) side) 0 (blockCount side) (λ b _ l.
+      all-gather P (λ i. columnEntries (m .ptrs) (m .rows) b (firstOf side b + i)) 0 (dofOf side b) (λ i _ g.
+      all-gather P (entryAt (m .rows) b) (firstIn (m .ptrs) (firstOf side b + i)) (endIn (m .ptrs) (firstOf side b + i)) (λ p low high. (h b i p l g low high, tt))))
+
+  pub side-each : All P (sideEntries m side) → (b i p : ℕ) → b < blockCount side → i < dofOf side b → firstIn (m .ptrs) (firstOf side b + i) ≤ p → p < endIn (m .ptrs) (firstOf side b + i)
+      → P (entry (getD (m .rows) p 0) b)
+  unfolding blockEntries columnEntries entryAt
+  side-each a b i p l g low high =
+      all-part P (entryAt (m .rows) b) (firstIn (m .ptrs) (firstOf side b + i)) (endIn (m .ptrs) (firstOf side b + i)) p low high
+      (all-part P (λ i. columnEntries (m .ptrs) (m .rows) b (firstOf side b + i)) 0 (dofOf side b) i (omega arith) g
+      (all-part P (blockEntries (m .ptrs) (m .rows) side) 0 (blockCount side) b (omega arith) l a)) .0
 
 -- ---- the first entry in a row is of the first block that has one
 

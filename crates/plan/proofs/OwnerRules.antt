@@ -2,8 +2,8 @@
 -- Assumes nothing.
 use borrow.Author.Needs.{needs}
 use borrow.Author.Tests.{eq-eqb, ne-eqb}
-use mathlib.Core.Path.{_≡_, refl, sym, ap, _∙_}
-use mathlib.Core.Bool.{Bool, false}
+use mathlib.Core.Path.{_≡_, refl, sym, _∙_}
+use mathlib.Core.Bool.{false}
 use mathlib.Core.List.{List, [], _∷_}
 use Prim.Native.Nat.{ℕ, _+_, _≤_, _<_}
 use lib.Dec.{eqb}
@@ -53,7 +53,7 @@ stopped-all s (x ∷ es) e = rw (stopped-one s x e) (stopped-all s es e)
 module _ (rows : List ℕ) (b p r : ℕ) (o : List ℕ) (e : r ≡ getD rows p 0) where
   pub claim-free : getD o r 0 ≡ mark → owned done (set o r b) ≡ claimed o (entryAt rows b p)
   unfolding entryAt
-  claim-free f = rw (e) (sym (folded-one claimOn (owned done o) _ ∙ step-free o _ (rw e at f)))
+  claim-free f = rw e (sym (folded-one claimOn (owned done o) _ ∙ step-free o _ (rw e at f)))
 
   pub claim-own : (getD o r 0 ≡ mark → ⊥) → getD o r 0 ≡ b → owned done o ≡ claimed o (entryAt rows b p)
   unfolding entryAt

@@ -1,4 +1,5 @@
 pub mod Owners
 pub mod OwnerWalk
 pub mod Lists
+pub mod RowLists
 pub mod Spans

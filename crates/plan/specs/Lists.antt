@@ -1,9 +1,9 @@
 -- Row lists and visible lists, flat with their starts. Assumes nothing.
 use mathlib.Core.Bool.{Bool, cond}
-use mathlib.Core.List.{List, [], _∷_}
+use mathlib.Core.List.{List, [], _∷_, _++_}
 use Prim.Native.Nat.{ℕ, _+_}
 use lib.Dec.{eqb}
-use lib.ListN.{length, getD}
+use lib.ListN.{length, getD, drop}
 use Rattle.ground.specs.First.{some}
 use Rattle.ground.specs.Gather.{gather, listOf}
 use Rattle.columns.specs.Columns.{Columns, firstPlace, endPlace}
@@ -20,6 +20,18 @@ startsOf f n = listOf (λ b. length (flat f b)) (n + 1)
 -- the rows that eliminated block b owns, ascending, each once
 unfoldable pub rowsOf : Columns → List ℕ → ℕ → List ℕ
 rowsOf m elims b = gather (λ r. cond (eqb (ownerOf m elims r) b) (r ∷ []) []) 0 (m .nrows)
+
+-- so it is read from a list of owners: the rows below nrows that it gives to block b
+unfoldable pub rowsWith : List ℕ → ℕ → ℕ → List ℕ
+rowsWith owners nrows b = gather (λ r. cond (eqb (getD owners r 0) b) (r ∷ []) []) 0 nrows
+
+-- what is left in a list and its starts that are lent: f 0, .., f (n - 1), where each starts, and past them what they held
+pub record Listed : Type 0 where
+  pub list : List ℕ
+  pub starts : List ℕ
+
+unfoldable pub listed : (ℕ → List ℕ) → ℕ → List ℕ → List ℕ → Listed
+listed f n list starts = record { list = flat f n ++ drop (length (flat f n)) list; starts = startsOf f n ++ drop (n + 1) starts }
 
 -- column j has an entry in a row of eliminated block e, and so has kept block b
 unfoldable pub columnSees : Columns → List ℕ → ℕ → ℕ → Bool

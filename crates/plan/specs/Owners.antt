@@ -1,7 +1,8 @@
 -- The owner of a row, and refusal 10. Assumes nothing.
-use mathlib.Core.Bool.{Bool, not, _&&_, cond}
+use mathlib.Core.Path.{_≡_}
+use mathlib.Core.Bool.{Bool, true, not, _&&_, cond}
 use mathlib.Core.List.{List, [], _∷_, _++_}
-use Prim.Native.Nat.{ℕ, _+_}
+use Prim.Native.Nat.{ℕ, _+_, _<_}
 use lib.Dec.{eqb, ltb}
 use lib.ListN.{length, getD, replicate, drop}
 use Rattle.ground.specs.First.{first, some}
@@ -65,6 +66,17 @@ firstClash es = first (clashes es) 0 (length es)
 unfoldable pub connectedTold : List Entry → Told
 connectedTold es =
     cond (ltb (firstClash es) (length es)) (tell 10 (entryIn es (firstClash es) .block ∷ entryIn es (holder es (firstClash es)) .block ∷ [])) done
+
+-- what it comes to: some row has entries of two different eliminated blocks
+pub record Connects (m : Columns) (elims : List ℕ) : Type 0 where
+  pub row : ℕ
+  pub one : ℕ
+  pub other : ℕ
+  pub one-there : one < blockCount elims
+  pub other-there : other < blockCount elims
+  pub one-in : inBlock m elims row one ≡ true
+  pub other-in : inBlock m elims row other ≡ true
+  pub differ : one ≡ other → ⊥
 
 -- the owners of the rows
 abbrev pub ownerList : Columns → List ℕ → List ℕ

@@ -1,5 +1,6 @@
 // Which eliminated block owns each row. A row that two of them have entries in would couple their inverses, so the plan is refused at the
 // first entry whose row an earlier block holds.
+use crate::owner::Owner;
 use blocks::check::mark_map;
 use columns::refusal::Answer;
 use columns::refusal::Refusal;
@@ -14,16 +15,6 @@ ghost use Rattle.columns.specs.Refusals.{told};
 ghost use Rattle.blocks.specs.Sides.{blockCount};
 ghost use Rattle.plan.specs.Owners.{entryAt, columnEntries, blockEntries, patternOf, ownersOf};
 ghost use Rattle.plan.specs.OwnerWalk.{claimed, RowIn, RowsIn, ColumnIn, BlockIn, SideIn, OwnersIn};
-
-// The owner of a row: an eliminated block's number, or the mark.
-pub struct Owner {
-    pub block: u32,
-}
-
-impl Owner {
-    // What the owners hold at a row where no eliminated block has an entry.
-    pub const NONE: u32 = 4_294_967_295;
-}
 
 // The entry at place p claims its row for block b.
 fn claim_entry(rows: &[u32], b: u32, p: usize, owners: &mut [u32]) -> Answer

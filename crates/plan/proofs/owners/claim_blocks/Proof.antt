@@ -1,6 +1,6 @@
 -- `owners::claim_blocks` meets its contract. Assumes nothing.
 use mathlib.Core.Path.{_≡_}
-use Prim.Native.Nat.{_-_, _≤_}
+use Prim.Native.Nat.{_-_}
 use lib.ListN.{length}
 use Rattle.ground.specs.Gather.{gather}
 use Rattle.blocks.specs.Sides.{blockCount}

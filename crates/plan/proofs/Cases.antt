@@ -1,0 +1,37 @@
+-- Worked cases, computed from the definitions: the built-in hall's owners and row lists, and its refusal 10 where column 2 is moved to rows 1
+-- and 4. The owners are lent with six places and the lists with seven, all of which hold 7. Assumes nothing.
+use mathlib.Core.Path.{_≡_, refl}
+use mathlib.Core.List.{List, [], _∷_}
+use Prim.Native.Nat.{ℕ}
+use lib.ListN.{replicate}
+use Rattle.ground.specs.First.{firstN, first}
+use Rattle.ground.specs.Gather.{gatherN, gather}
+use Rattle.columns.specs.Refusals.{tell, done, onPass}
+use Rattle.columns.specs.Columns.{Columns, firstIn, endIn}
+use Rattle.blocks.specs.Claims.{mark}
+use Rattle.plan.specs.Owners.{inColumn, inBlock, ownerOf, entryAt, columnEntries, blockEntries, holder, clashes, connectedTold, patternOf, ownersOf}
+use Rattle.plan.specs.Lists.{rowsOf, listed}
+
+abbrev elims : List ℕ
+elims = 1 ∷ 1 ∷ 2 ∷ 1 ∷ []
+
+abbrev columnsAt : List ℕ → Columns
+columnsAt rows = patternOf 5 (0 ∷ 4 ∷ 6 ∷ 8 ∷ []) rows
+
+abbrev hall : Columns
+hall = columnsAt (0 ∷ 1 ∷ 3 ∷ 4 ∷ 0 ∷ 1 ∷ 3 ∷ 4 ∷ [])
+
+abbrev moved : Columns
+moved = columnsAt (0 ∷ 1 ∷ 3 ∷ 4 ∷ 0 ∷ 1 ∷ 1 ∷ 4 ∷ [])
+
+pub hall-owners : ownersOf hall elims (replicate 6 7) ≡ record { told = done; owners = 0 ∷ 0 ∷ mark ∷ 1 ∷ 1 ∷ 7 ∷ [] }
+unfolding first firstN gather gatherN onPass firstIn endIn inColumn inBlock ownerOf entryAt columnEntries blockEntries holder clashes connectedTold ownersOf
+hall-owners = refl
+
+pub moved-owners : ownersOf moved elims (replicate 6 7) ≡ record { told = tell 10 (1 ∷ 0 ∷ []); owners = mark ∷ mark ∷ mark ∷ mark ∷ mark ∷ 7 ∷ [] }
+unfolding first firstN gather gatherN onPass firstIn endIn inColumn inBlock ownerOf entryAt columnEntries blockEntries holder clashes connectedTold ownersOf
+moved-owners = refl
+
+pub hall-lists : listed (rowsOf hall elims) 2 (replicate 7 7) (replicate 7 7) ≡ record { list = 0 ∷ 1 ∷ 3 ∷ 4 ∷ 7 ∷ 7 ∷ 7 ∷ []; starts = 0 ∷ 2 ∷ 4 ∷ 7 ∷ 7 ∷ 7 ∷ 7 ∷ [] }
+unfolding first firstN gather gatherN firstIn endIn inColumn inBlock ownerOf rowsOf listed
+hall-lists = refl
