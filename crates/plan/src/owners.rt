@@ -93,7 +93,7 @@ fn claim_blocks(ptrs: &[u32], rows: &[u32], elims: &[u32], owners: &mut [u32]) -
 }
 
 // The owners of all rows: the eliminated block with an entry there, or the mark; after refusal 10 the mark everywhere.
-pub fn row_owners(
+pub(crate) fn row_owners(
     nrows: usize,
     ptrs: &[u32],
     rows: &[u32],
