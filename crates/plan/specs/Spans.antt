@@ -1,13 +1,19 @@
 -- Chunks of rows and a side's spans. Assumes nothing.
-use mathlib.Core.Bool.{Bool, _&&_, cond}
-use mathlib.Core.List.{List, [], _∷_}
+use mathlib.Core.Bool.{Bool, _&&_, _||_, cond}
+use mathlib.Core.List.{List, [], _∷_, _++_, map}
 use Prim.Native.Nat.{ℕ, zero, suc, _+_, _-_, _*_, _/_}
-use lib.Dec.{leb, ltb}
-use lib.ListN.{getD}
+use lib.Dec.{eqb, leb, ltb}
+use lib.ListN.{length, getD, drop}
 use Rattle.ground.specs.First.{first, some}
 use Rattle.ground.specs.Gather.{gather}
+use Rattle.columns.specs.Refusals.{Told, tell, done}
 use Rattle.columns.specs.Columns.{Columns, firstPlace, endPlace}
 use Rattle.blocks.specs.Sides.{cols, sideDof}
+use Rattle.plan.specs.Lists.{flat, startsOf}
+
+-- 5: the chunk length is 0 or too large
+unfoldable pub chunkTold : ℕ → Told
+chunkTold len = cond (eqb len 0 || ltb 1_048_576 len) (tell 5 []) done
 
 -- chunk c is rows c·L up to but not including (c+1)·L; there are ceil(rows / L)
 unfoldable pub chunkCount : ℕ → ℕ → ℕ
@@ -41,10 +47,45 @@ columnSpan m len c l j =
     } ∷ [])
     []
 
--- a chunk's spans by local number
-unfoldable pub chunkSpans : Columns → List ℕ → ℕ → ℕ → List Span
-chunkSpans m side len c = gather (λ l. columnSpan m len c l (getD (cols side) l 0)) 0 (sideDof side)
+-- a chunk's spans by local number, where the first n of cs are the columns in local order
+unfoldable pub localSpans : Columns → List ℕ → ℕ → ℕ → ℕ → List Span
+localSpans m cs n len c = gather (λ l. columnSpan m len c l (getD cs l 0)) 0 n
+
+abbrev pub chunkSpans : Columns → List ℕ → ℕ → ℕ → List Span
+chunkSpans m side len c = localSpans m (cols side) (sideDof side) len c
 
 -- a side's spans, by chunk
 abbrev pub sideSpans : Columns → List ℕ → ℕ → List Span
-sideSpans m side len = gather (chunkSpans m side len) 0 (chunkCount (m .nrows) len)
+sideSpans m side len = flat (chunkSpans m side len) (chunkCount (m .nrows) len)
+
+-- ---- what is left in the four lists of a side that are lent
+
+pub record Spread : Type 0 where
+  pub starts : List ℕ
+  pub lo : List ℕ
+  pub hi : List ℕ
+  pub local : List ℕ
+
+-- a number of each of some spans, and past them what the list held
+abbrev pub laid : (Span → ℕ) → List Span → List ℕ → List ℕ
+laid v ss l = map v ss ++ drop (length ss) l
+
+-- the spans of n chunks, where each chunk's start, and past them what the lists held
+unfoldable pub spread : (ℕ → List Span) → ℕ → Spread → Spread
+spread f n s = record {
+  starts = startsOf f n ++ drop (n + 1) (s .starts);
+  lo = laid (λ x. x .lo) (flat f n) (s .lo);
+  hi = laid (λ x. x .hi) (flat f n) (s .hi);
+  local = laid (λ x. x .local) (flat f n) (s .local);
+}
+
+-- how many spans there are, and what is left
+pub record Spanned : Type 0 where
+  pub count : ℕ
+  pub left : Spread
+
+unfoldable pub spanned : Columns → List ℕ → ℕ → ℕ → Spread → Spanned
+spanned m cs n len s = record {
+  count = length (flat (localSpans m cs n len) (chunkCount (m .nrows) len));
+  left = spread (localSpans m cs n len) (chunkCount (m .nrows) len) s;
+}
