@@ -29,12 +29,13 @@ listsTold kept elims = cond (tooMany kept || tooMany elims) (tell 1 []) (cond (i
 unfoldable pub emptySide : List ℕ → List ℕ → Told
 emptySide kept elims = cond (eqb (blockCount kept) 0) (tell 4 (0 ∷ [])) (cond (eqb (blockCount elims) 0) (tell 4 (1 ∷ [])) done)
 
--- 1 to 6, after which no byte changes: the columns' checks and the lists' side by side, then 4, then room for the map
+-- 1 to 4, the columns' checks and the lists' side by side, and then what else is looked at before a byte changes
+abbrev pub partsTold : Columns → List ℕ → List ℕ → Told → Told
+partsTold m kept elims rest = orElse (sooner (checked m) (listsTold kept elims)) (orElse (emptySide kept elims) rest)
+
+-- 1 to 6, after which no byte changes: last, room for the map
 unfoldable pub earlyTold : Columns → List ℕ → List ℕ → List ℕ → Told
-earlyTold m kept elims map =
-    orElse (sooner (checked m) (listsTold kept elims))
-    (orElse (emptySide kept elims)
-    (noRoom (length map ∷ columnCount m ∷ [])))
+earlyTold m kept elims map = partsTold m kept elims (noRoom (length map ∷ columnCount m ∷ []))
 
 -- ---- claims
 
@@ -88,14 +89,14 @@ mark = 4_294_967_295
 unfoldable pub marked : ℕ → List ℕ → List ℕ
 marked n map = replicate (length (take n map)) mark ++ drop n map
 
--- What a call that tells t leaves in the map. After 1 to 6 no byte changes. After a later refusal the first columns places hold the mark. On
--- success they hold the kept local number, or kept dof plus the eliminated local number: the column's place among the claims. Places past the
--- columns hold what they held.
+-- What a call that tells t leaves in the map of n columns, whose checks of 1 to 6 told `early`, where the blocks claim cs. After 1 to 6 no byte changes.
+-- After a later refusal the first columns places hold the mark. On success they hold the kept local number, or kept dof plus the eliminated
+-- local number: the column's place among the claims. Places past the columns hold what they held.
+abbrev pub mapAfter : Told → Told → ℕ → List ℕ → List ℕ → List ℕ
+mapAfter early t n cs map = onPass early (onPass t (listOf (placeOf cs) n) (replicate n mark) ++ drop n map) map
+
 unfoldable pub mapLeft : Told → Columns → List ℕ → List ℕ → List ℕ → List ℕ
-mapLeft t m kept elims map =
-    onPass (earlyTold m kept elims map)
-    (onPass t (listOf (placeOf (claims (columnCount m) kept elims)) (columnCount m)) (replicate (columnCount m) mark) ++ drop (columnCount m) map)
-    map
+mapLeft t m kept elims map = mapAfter (earlyTold m kept elims map) t (columnCount m) (claims (columnCount m) kept elims) map
 
 -- what a call tells, and what it leaves in the map
 pub record Mapped : Type 0 where

@@ -15,7 +15,7 @@ ghost use lib.ListN.{length};
 ghost use Rattle.ground.specs.First.{first};
 ghost use Rattle.columns.specs.Refusals.{told};
 ghost use Rattle.columns.specs.Columns.{columnsOf};
-ghost use Rattle.blocks.specs.Claims.{tooMany, isOdd, listsTold, emptySide, earlyTold, blockClaims, sideClaims, claims, marked, checkBlocks};
+ghost use Rattle.blocks.specs.Claims.{tooMany, isOdd, listsTold, emptySide, partsTold, earlyTold, blockClaims, sideClaims, claims, marked, checkBlocks};
 ghost use Rattle.blocks.specs.Walk.{isFree, through, walkOf, walked, walkBlocks, Room, BlockWalks, Roomy, Tried};
 
 // What the map holds at a column that no block has claimed, and at every column after a refusal.
@@ -67,6 +67,25 @@ pub fn empty_side(kept: &[u32], elims: &[u32]) -> Answer
     Answer::Done
 }
 
+// Refusals 1 to 4, and then what the call has found before it changes a byte: its chunk length and its buffers' room.
+pub fn check_parts(
+    nrows: usize,
+    ptrs: &[u32],
+    rows: &[u32],
+    values: &[f64],
+    kept: &[u32],
+    elims: &[u32],
+    rest: Answer,
+) -> Answer
+    ensures { λ r. ⌜ told r ≡ partsTold (columnsOf nrows (now (ptrs .entry)) (now (rows .entry)) (now (values .entry))) (now (kept .entry)) (now (elims .entry)) (told rest) ⌝ }
+{
+    let lists = sooner(
+        check_columns(nrows, ptrs, rows, values),
+        check_lists(kept, elims),
+    );
+    or_else(lists, or_else(empty_side(kept, elims), rest))
+}
+
 // Refusals 1 to 6, after which no byte changes.
 pub fn check_early(
     nrows: usize,
@@ -80,11 +99,7 @@ pub fn check_early(
     ensures { λ r. ⌜ told r ≡ earlyTold (columnsOf nrows (now (ptrs .entry)) (now (rows .entry)) (now (values .entry))) (now (kept .entry)) (now (elims .entry)) (now (map .entry)) ⌝ }
 {
     let room = [map.len(), column_count(ptrs)];
-    let lists = sooner(
-        check_columns(nrows, ptrs, rows, values),
-        check_lists(kept, elims),
-    );
-    or_else(lists, or_else(empty_side(kept, elims), no_room(&room)))
+    check_parts(nrows, ptrs, rows, values, kept, elims, no_room(&room))
 }
 
 fn mark_places(map: &mut [u32], n: usize)
@@ -201,8 +216,8 @@ fn try_blocks(kept: &[u32], elims: &[u32], n: usize, map: &mut [u32]) -> Answer
     }
 }
 
-// Refusals 7 to 9, and the map that they leave.
-fn walk_blocks(kept: &[u32], elims: &[u32], n: usize, map: &mut [u32]) -> Answer
+// Refusals 7 to 9, and the map that they leave: for calls that have made the earlier checks.
+pub fn walk_blocks(kept: &[u32], elims: &[u32], n: usize, map: &mut [u32]) -> Answer
     requires { ⌜ Roomy n (length (now map)) ⌝ }
     ensures { λ r. ⌜ record { told = told r; map = now (map .exit) } ≡ walkBlocks n (claims n (now (kept .entry)) (now (elims .entry))) (now (map .entry)) ⌝ }
 {

@@ -1,12 +1,12 @@
 -- What a loop that writes a list place by place, `for i in 0..n { y[i] = g(i); }`, leaves there; and what a list that a walk hands on holds at
 -- each place. Assumes nothing.
 use mathlib.Core.Path.{_≡_, refl, sym, ap, _∙_}
-use mathlib.Core.List.{List, [], _∷_, _++_}
+use mathlib.Core.List.{List, [], _∷_, _++_, append-nil}
 use Prim.Native.Nat.{ℕ, zero, suc, _+_, _-_, _≤_, _<_}
 use native.Mathlib.Decide.{decLt, ℕ-discrete}
 use native.Mathlib.Omega.{arith}
-use lib.ListN.{length, getD, set, length-append, length-set, replicate, length-replicate, getD-replicate, List·getD-append}
-use lib.Seq.{getD-append-add, getD-set-same, getD-set-other, ext-getD}
+use lib.ListN.{length, getD, set, drop, length-drop, length-append, length-set, replicate, length-replicate, getD-replicate, List·getD-append}
+use lib.Seq.{drop-length, getD-drop, getD-append-add, getD-set-same, getD-set-other, ext-getD}
 use Rattle.ground.specs.Range.{range}
 use Rattle.ground.specs.Gather.{gather, listOf}
 use Rattle.ground.proofs.RangeLaws.{range-keeps, range-seen, range-idle, range-split, range-last}
@@ -39,13 +39,33 @@ written-all z y =
     let l : r < length y = rw (length-written z (λ _. z) 0 (length y) y) at h in
     written-at z (λ _. z) (length y) r y l l ∙ sym (getD-replicate (length y) r z z l))
 
--- a list written from end to end
-pub written-list : {A : Type 0} (d : A) (g : ℕ → A) (n : ℕ) (y : List A) → length y ≡ n → range (λ i y. set y i (g i)) 0 n y ≡ listOf g n
-written-list d g n y e =
-    ext-getD d _ _ (length-written d g 0 n y ∙ e ∙ sym (length-listOf g d n)) (λ r h.
-    let l : r < length y = rw (length-written d g 0 n y) at h in
-    let m : r < n = rw e at l in
-    written-at d g n r y m l ∙ sym (getD-listOf g d n r m))
+-- a list whose first n places are written, and one written from end to end
+module _ {A : Type 0} (d : A) (g : ℕ → A) (n : ℕ) (y : List A) where
+  pub written-front : n ≤ length y → range (λ i y. set y i (g i)) 0 n y ≡ listOf g n ++ drop n y
+  written-front h =
+      let k = length-listOf g d n in
+      ext-getD d _ _ (length-written d g 0 n y ∙ (let a = length-append (listOf g n) (drop n y) in let b = length-drop n y in omega arith)) (λ r l.
+      let q : r < length y = rw (length-written d g 0 n y) at l in
+      go r q (decLt r n))
+    where
+      go : (r : ℕ) → r < length y → Dec (r < n) → getD (range (λ i y. set y i (g i)) 0 n y) r d ≡ getD (listOf g n ++ drop n y) r d
+      go r q (yes p) = written-at d g n r y p q ∙ sym (List·getD-append (listOf g n) (drop n y) d r (rw (length-listOf g d n) p) ∙ getD-listOf g d n r p)
+      go r q (no p) =
+          let e : n + (r - n) ≡ r = omega arith in
+          let s : getD (listOf g n ++ drop n y) (n + (r - n)) d ≡ getD y (n + (r - n)) d =
+              ap (λ (k : ℕ). getD (listOf g n ++ drop n y) (k + (r - n)) d) (sym (length-listOf g d n)) ∙ getD-append-add (listOf g n) (drop n y) (r - n) d ∙ getD-drop n y (r - n) d in
+          written-other d g 0 n r y (λ k _ l e. omega arith) ∙ sym (rw e at s)
+
+  pub written-list : length y ≡ n → range (λ i y. set y i (g i)) 0 n y ≡ listOf g n
+  written-list e =
+      let z : drop n y ≡ [] = rw (← e) (drop-length y) in
+      written-front (omega arith) ∙ ap (λ (r : List A). listOf g n ++ r) z ∙ append-nil (listOf g n)
+
+-- a list is that of what stands at its places
+pub list-back : {A : Type 0} (d : A) (xs : List A) → listOf (λ i. getD xs i d) (length xs) ≡ xs
+list-back d xs =
+    ext-getD d _ _ (length-listOf (λ i. getD xs i d) d (length xs)) (λ r h.
+    getD-listOf (λ i. getD xs i d) d (length xs) r (rw (length-listOf (λ i. getD xs i d) d (length xs)) at h))
 
 -- ---- lists by their places
 

@@ -1,4 +1,6 @@
 -- The laws of specs/, and what the code's steps show of them.
+pub mod ColumnRules
+pub mod EntryLaws
 pub mod OwnerRules
 pub mod OwnerLaws
 pub mod OwnerCalls

@@ -6,3 +6,5 @@ pub mod Entries
 pub mod VisibleWalk
 pub mod Spans
 pub mod SpanWalk
+pub mod Plan
+pub mod ColumnLists
