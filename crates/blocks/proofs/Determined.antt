@@ -13,8 +13,10 @@ use Rattle.columns.proofs.RefusalLaws.{answerOf, answer-back}
 use Rattle.blocks.specs.Claims.{Mapped}
 use Rattle.blocks.proofs.check.check_lists.Reads as lists
 use Rattle.blocks.proofs.check.empty_side.Reads as empty
+use Rattle.blocks.proofs.check.check_parts.Reads as parts
 use Rattle.blocks.proofs.check.check_early.Reads as early
 use Rattle.blocks.proofs.check.mark_map.Reads as marks
+use Rattle.blocks.proofs.check.walk_blocks.Reads as walk
 use Rattle.blocks.proofs.check.check_blocks.Reads as blocks
 
 -- what is told, and what is told with the map that is left
@@ -32,11 +34,18 @@ check-lists κs a s t p q = told-determined _ p q
 pub empty-side : (κs : Lfts 2) (a : _) (s t : _) (p q : Answer) → empty.Post κs a p s → empty.Post κs a q t → p ≡ q
 empty-side κs a s t p q = told-determined _ p q
 
+pub check-parts : (κs : Lfts 5) (a : _) (s t : _) (p q : Answer) → parts.Post κs a p s → parts.Post κs a q t → p ≡ q
+check-parts κs a s t p q = told-determined _ p q
+
 pub check-early : (κs : Lfts 6) (a : _) (s t : _) (p q : Answer) → early.Post κs a p s → early.Post κs a q t → p ≡ q
 check-early κs a s t p q = told-determined _ p q
 
 pub mark-map : (κs : Lfts 1) (a : _) (s t : _) (p q : _) → marks.Post κs a p s → marks.Post κs a q t → now (s .0) ≡ now (t .0)
 mark-map κs a s t p q x y = x ∙ sym y
+
+pub walk-blocks : (κs : Lfts 3) (a : _) (s t : _) (p q : Answer) → walk.Post κs a p s → walk.Post κs a q t
+    → _≡_ {A = Answer × List ℕ} (p, now (s .1 .1 .1 .0)) (q, now (t .1 .1 .1 .0))
+walk-blocks κs a s t p q = mapped-determined _ (p, now (s .1 .1 .1 .0)) (q, now (t .1 .1 .1 .0))
 
 pub check-blocks : (κs : Lfts 6) (a : _) (s t : _) (p q : Answer) → blocks.Post κs a p s → blocks.Post κs a q t
     → _≡_ {A = Answer × List ℕ} (p, now (s .1 .1 .1 .1 .1 .1 .0)) (q, now (t .1 .1 .1 .1 .1 .1 .0))

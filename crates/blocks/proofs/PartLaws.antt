@@ -13,10 +13,11 @@ use Rattle.ground.specs.First.{None}
 use Rattle.ground.specs.Gather.{gather}
 use Rattle.ground.proofs.FirstLaws.{past-none, none-past}
 use Rattle.ground.proofs.GatherLaws.{gather-same}
-use Rattle.columns.specs.Refusals.{Told, tell, done, Passes, onPass}
-use Rattle.columns.specs.Lengths.{pairBad, pairsTold, noRoom}
-use Rattle.columns.specs.Columns.{Columns, columnCount}
+use Rattle.columns.specs.Refusals.{Told, tell, done, Passes, onPass, orElse}
+use Rattle.columns.specs.Lengths.{lengthOf, needOf, noRoom}
+use Rattle.columns.specs.Columns.{Columns, columnCount, Keeps}
 use Rattle.columns.proofs.RefusalLaws.{passed, both-pass}
+use Rattle.columns.proofs.CallLaws.{room-done}
 use Rattle.columns.proofs.CheckLaws.{or-false, passes-keeps, keeps-passes}
 use Rattle.blocks.specs.Sides.{blockCount, firstOf, blockColumns, cols, offsetOf, sideDof, HasAt, sideOf}
 use Rattle.blocks.specs.Claims.{
@@ -24,6 +25,7 @@ use Rattle.blocks.specs.Claims.{
   isOdd,
   listsTold,
   emptySide,
+  partsTold,
   earlyTold,
   blockClaims,
   sideClaims,
@@ -311,48 +313,53 @@ module _ (n : ℕ) (kept elims : List ℕ) where
 
 -- ---- the whole check, both ways
 
+module _ (m : Columns) (kept elims : List ℕ) where
+  -- what passes of the lists' checks and of 7 to 9 are worth
+  pub walk-parted : Passes (listsTold kept elims) → Passes (emptySide kept elims) → Passes (orElse (walkTold (columnCount m) (claims (columnCount m) kept elims)) (gapTold (columnCount m) (claims (columnCount m) kept elims)))
+      → Parted (columnCount m) kept elims
+  walk-parted lists empty late =
+      let n = columnCount m in
+      let w = both-pass (walkTold n (claims n kept elims)) (gapTold n (claims n kept elims)) late in
+      record {
+        right = λ e. record {
+          few = sides-few kept elims lists e .0;
+          whole = sides-few kept elims lists e .1;
+          some = sides-some kept elims empty e;
+          starts = starts-of n kept elims (w .0) (w .1) e;
+          inside = inside-of n kept elims (w .0) (w .1) e;
+        };
+        claimed = claimed-of n kept elims (w .0) (w .1);
+        once = once-of n kept elims (w .0) (w .1);
+      }
+
+  -- columns and blocks that keep the rules pass 1 to 4, and what else is looked at tells
+  pub parted-parts : Keeps m → Parted (columnCount m) kept elims → (rest : Told) → partsTold m kept elims rest ≡ rest
+  unfolding onPass
+  parted-parts k p rest =
+      rw (keeps-passes m k, few-sides kept elims (λ e. (p .right e .few, p .right e .whole)), some-sides kept elims (λ e. p .right e .some))
+
+  -- and they pass 7 to 9
+  pub parted-late : Parted (columnCount m) kept elims → orElse (walkTold (columnCount m) (claims (columnCount m) kept elims)) (gapTold (columnCount m) (claims (columnCount m) kept elims)) ≡ done
+  unfolding onPass
+  parted-late p = rw (parted-walk (columnCount m) kept elims p, parted-gap (columnCount m) kept elims p)
+
 module _ (m : Columns) (kept elims map : List ℕ) where
   -- what a pass is worth
   pub passes-parted : Passes (blocksTold m kept elims map) → BlocksKeep m kept elims map
   unfolding blocksTold
   passes-parted p =
-      let n = columnCount m in
       let a = both-pass (earlyTold m kept elims map) _ p in
-      let w = both-pass (walkTold n (claims n kept elims)) (gapTold n (claims n kept elims)) (a .1) in
       let r = early-passes m kept elims map (a .0) in
-      record {
-        keeps = passes-keeps m (r .0);
-        parted = record {
-          right = λ e. record {
-            few = sides-few kept elims (r .1) e .0;
-            whole = sides-few kept elims (r .1) e .1;
-            some = sides-some kept elims (r .2) e;
-            starts = starts-of n kept elims (w .0) (w .1) e;
-            inside = inside-of n kept elims (w .0) (w .1) e;
-          };
-          claimed = claimed-of n kept elims (w .0) (w .1);
-          once = once-of n kept elims (w .0) (w .1);
-        };
-        room = r .3;
-      }
+      record { keeps = passes-keeps m (r .0); parted = walk-parted m kept elims (r .1) (r .2) (a .1); room = r .3 }
 
   room-told : columnCount m ≤ length map → noRoom (length map ∷ columnCount m ∷ []) ≡ done
-  unfolding pairsTold pairBad
-  room-told h = rw (none-past (pairBad false (length map ∷ columnCount m ∷ [])) 0 1 (λ k _ l. fine k l))
+  room-told h = room-done (length map ∷ columnCount m ∷ []) fine
     where
-      fine : (k : ℕ) → k < 1 → pairBad false (length map ∷ columnCount m ∷ []) k ≡ false
-      fine zero l = rw (le-ltb (length map) (columnCount m) h)
+      fine : (k : ℕ) → k < 1 → needOf (length map ∷ columnCount m ∷ []) k ≤ lengthOf (length map ∷ columnCount m ∷ []) k
+      fine zero l = h
       fine (suc k) l = absurd (omega arith)
 
   -- columns and blocks that keep the rules pass
   pub parted-passes : BlocksKeep m kept elims map → blocksTold m kept elims map ≡ done
   unfolding blocksTold earlyTold onPass
-  parted-passes g =
-      rw (
-        keeps-passes m (g .keeps),
-        few-sides kept elims (λ e. (g .parted .right e .few, g .parted .right e .whole)),
-        some-sides kept elims (λ e. g .parted .right e .some),
-        room-told (g .room),
-        parted-walk (columnCount m) kept elims (g .parted),
-        parted-gap (columnCount m) kept elims (g .parted),
-      )
+  parted-passes g = rw (parted-parts m kept elims (g .keeps) (g .parted) (noRoom (length map ∷ columnCount m ∷ [])), room-told (g .room)) (parted-late m kept elims (g .parted))

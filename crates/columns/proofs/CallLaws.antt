@@ -8,8 +8,8 @@ use native.Mathlib.Omega.{arith}
 use lib.Dec.{leb}
 use lib.ListN.{length, replicate, length-replicate}
 use lib.Ieee.{Float}
-use borrow.Author.Tests.{ltb-false, leb-false}
-use Rattle.ground.proofs.FirstLaws.{past-none}
+use borrow.Author.Tests.{le-ltb, ltb-false, leb-false}
+use Rattle.ground.proofs.FirstLaws.{past-none, none-past}
 use Rattle.columns.specs.declared.refusal.Refusal.{Refusal}
 use Rattle.columns.specs.declared.refusal.Answer.{Answer}
 use Rattle.columns.specs.declared.refusal.Answer.the-variants.{Done, Refused}
@@ -74,6 +74,11 @@ lengths-right pairs e k l =
 pub room-right : (pairs : List ℕ) → Passes (noRoom pairs) → (k : ℕ) → k < length pairs / 2 → needOf pairs k ≤ lengthOf pairs k
 unfolding pairsTold pairBad
 room-right pairs e k l = ltb-false _ _ (or-false _ _ (past-none (pairBad false pairs) 0 (length pairs / 2) (passed _ 5 _ done e .0) k (omega arith) l) .0)
+
+-- and back
+pub room-done : (pairs : List ℕ) → ((k : ℕ) → k < length pairs / 2 → needOf pairs k ≤ lengthOf pairs k) → noRoom pairs ≡ done
+unfolding pairsTold pairBad
+room-done pairs h = rw (none-past (pairBad false pairs) 0 (length pairs / 2) (λ k _ l. rw (le-ltb (lengthOf pairs k) (needOf pairs k) (h k l))))
 
 column-is : (n j : ℕ) → Passes (noColumn n j) → j < n
 unfolding noColumn

@@ -7,4 +7,5 @@ pub mod OwnerCalls
 pub mod ConnectedLaws
 pub mod RowRules
 pub mod RowLaws
+pub mod PlanCalls
 pub mod Cases

@@ -29,6 +29,19 @@ pub record Buffers : Type 0 where
   pub kept : Spread
   pub elims : Spread
 
+abbrev pub buffers : List ℕ → List ℕ → List ℕ → List ℕ → List ℕ → List ℕ → List ℕ → List ℕ → List ℕ → List ℕ → List ℕ → List ℕ → List ℕ → List ℕ → List ℕ → List ℕ → List ℕ → Buffers
+buffers map keptCols elimsCols elimsBlocks owners rowList rowStarts visible visibleStarts keptStarts keptLo keptHi keptLocal elimsStarts elimsLo elimsHi elimsLocal = record {
+  map = map;
+  keptCols = keptCols;
+  elimsCols = elimsCols;
+  elimsBlocks = elimsBlocks;
+  owners = owners;
+  rowLists = record { list = rowList; starts = rowStarts };
+  visible = record { list = visible; starts = visibleStarts };
+  kept = record { starts = keptStarts; lo = keptLo; hi = keptHi; local = keptLocal };
+  elims = record { starts = elimsStarts; lo = elimsLo; hi = elimsHi; local = elimsLocal };
+}
+
 -- a list with its starts, and a side's spans, as pairs of length and need
 abbrev pub listRoom : Listed → ℕ → ℕ → List ℕ → List ℕ
 listRoom l items lists rest = length (l .list) ∷ items ∷ length (l .starts) ∷ (lists + 1) ∷ rest

@@ -4,4 +4,6 @@ mod lists;
 pub mod owner;
 mod owners;
 mod row_lists;
+pub mod spans;
 pub mod structure;
+mod visible;
