@@ -7,5 +7,11 @@ pub mod OwnerCalls
 pub mod ConnectedLaws
 pub mod RowRules
 pub mod RowLaws
+pub mod ChunkLaws
+pub mod RunLaws
+pub mod SpanBridge
+pub mod RunRules
+pub mod PutRules
+pub mod SpanRules
 pub mod PlanCalls
 pub mod Cases
