@@ -1,6 +1,7 @@
 -- The laws of specs/, and what the code's steps show of them.
 pub mod ColumnRules
 pub mod EntryLaws
+pub mod FlatLaws
 pub mod OwnerRules
 pub mod OwnerLaws
 pub mod OwnerCalls
