@@ -48,7 +48,7 @@ use Rattle.blocks.proofs.CallRules.{early-passes}
 
 -- ---- the lists and the sides
 
-sides-few : (kept elims : List ℕ) → Passes (listsTold kept elims) → (e : Bool) → (blockCount (sideOf e kept elims) ≤ 65_536) × (length (sideOf e kept elims) % 2 ≡ 0)
+pub sides-few : (kept elims : List ℕ) → Passes (listsTold kept elims) → (e : Bool) → (blockCount (sideOf e kept elims) ≤ 65_536) × (length (sideOf e kept elims) % 2 ≡ 0)
 unfolding listsTold tooMany isOdd
 sides-few kept elims p =
     let a = passed (tooMany kept || tooMany elims) 0 [] _ p in

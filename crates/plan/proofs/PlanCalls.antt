@@ -4,7 +4,7 @@ use mathlib.Core.Path.{_≡_, refl, sym, ap, _∙_}
 use mathlib.Core.Bool.{Bool, true, false, cond}
 use mathlib.Core.List.{List, [], _∷_, _++_}
 use Prim.Native.Nat.{ℕ, zero, suc, _+_, _-_, _/_, _≤_, _<_}
-use native.Mathlib.Nat.{le-trans}
+use native.Mathlib.Nat.{le-trans, div-le-self}
 use native.Mathlib.Omega.{arith}
 use lib.ListN.{length, getD, drop, replicate, length-append, length-drop, List·getD-append}
 use lib.Seq.{drop-at}
@@ -12,17 +12,19 @@ use borrow.Author.Tests.{eqb-false}
 use Rattle.ground.specs.Gather.{listOf}
 use Rattle.ground.proofs.GatherLaws.{gather-same, length-listOf}
 use Rattle.columns.specs.declared.refusal.Refusal.{Refusal}
-use Rattle.columns.specs.Refusals.{number, Told, tell, done, refused, Passes, onPass, orElse}
+use Rattle.columns.specs.declared.refusal.Answer.{Answer}
+use Rattle.columns.specs.declared.refusal.Answer.the-variants.{Done, Refused}
+use Rattle.columns.specs.Refusals.{number, Told, tell, done, refused, told, Passes, onPass, orElse}
 use Rattle.columns.specs.Lengths.{lengthOf, needOf, noRoom}
 use Rattle.columns.specs.Columns.{Columns, columnsOf, columnCount, entryCount, Keeps}
 use Rattle.columns.proofs.RefusalLaws.{number-some, pass-refused, pass-done}
 use Rattle.columns.proofs.CheckLaws.{passes-keeps, column-there, column-run}
-use Rattle.columns.proofs.CallLaws.{room-right}
+use Rattle.columns.proofs.CallLaws.{told-done, room-right}
 use Rattle.blocks.specs.Sides.{blockCount, cols, sideDof, sideOf}
 use Rattle.blocks.specs.Claims.{mark, marked, claims, placeOf, partsTold, Parted, Mapped}
 use Rattle.blocks.specs.Walk.{Roomy, walkBlocks}
 use Rattle.blocks.proofs.CallRules.{parts-passes}
-use Rattle.blocks.proofs.PartLaws.{walk-parted, parted-dofs}
+use Rattle.blocks.proofs.PartLaws.{sides-few, walk-parted, parted-dofs}
 use Rattle.blocks.proofs.MapLaws.{cols-in}
 use Rattle.blocks.proofs.SideLaws.{cols-length}
 use Rattle.blocks.proofs.WalkRules.{marked-all}
@@ -33,7 +35,7 @@ use Rattle.plan.specs.Lists.{Listed, rowsOf, rowsWith, visibleOf, listed
 use Rattle.plan.specs.RowLists.{ListsFit}
 use Rattle.plan.specs.Spans.{chunkTold, chunkCount, placeIn, columnSpan, localSpans, chunkSpans, sideSpans, Spread, spread, Spanned, spanned}
 use Rattle.plan.specs.SpanWalk.{Chunked, ColumnRises, SpansFit}
-use Rattle.plan.specs.Plan.{Buffers, columnBlocks, room, planEarly, planBlocks, planConnected, planTold, planOf, marks, lent, planLeft, Outcome, planned}
+use Rattle.plan.specs.Plan.{Buffers, columnBlocks, roomList, room, planEarly, planBlocks, planConnected, planTold, planOf, marks, lent, planLeft, Outcome, planned}
 use Rattle.plan.specs.ColumnLists.{ColumnsFit, Counted, columnsListed, blocksListed}
 use Rattle.plan.proofs.ChunkLaws.{chunk-passes}
 use Rattle.plan.proofs.FlatLaws.{flat-same, spread-same}
@@ -60,9 +62,19 @@ module _ (m : Columns) (kept elims : List ℕ) (len : ℕ) (parts : done ≡ par
   pub early-chunked : Chunked (m .nrows) len
   early-chunked = chunk-passes (m .nrows) len (parts-passes m kept elims (chunkTold len) passes .3) (early-keeps .small .few-rows)
 
-  module _ (b : Buffers) (told : done ≡ noRoom (room m kept elims len b)) where
+  -- a side's blocks and the chunks are few
+  pub early-blocks : (e : Bool) → blockCount (sideOf e kept elims) ≤ 65_536
+  early-blocks e = sides-few kept elims (parts-passes m kept elims (chunkTold len) passes .1) e .0
+
+  pub early-chunks : (chunks : ℕ) → chunks ≡ chunkCount (m .nrows) len → chunks ≤ 2_097_152
+  unfolding chunkCount
+  early-chunks chunks e =
+      let c = early-chunked in
+      rw e (le-trans (div-le-self (m .nrows + (len - 1)) len) (omega (arith, c .few-len, c .few-rows)))
+
+  module _ (b : Buffers) (fits : done ≡ noRoom (room m kept elims len b)) where
     abbrev roomy : Passes (noRoom (room m kept elims len b))
-    roomy = ap (λ (t : Told). t .number) (sym told)
+    roomy = ap (λ (t : Told). t .number) (sym fits)
 
     pub map-room : Roomy (columnCount m) (length (b .map))
     unfolding room
@@ -79,6 +91,12 @@ module _ (m : Columns) (kept elims : List ℕ) (len : ℕ) (parts : done ≡ par
       chunked = early-chunked;
       roomy = roomy;
     }
+
+-- the room list as the code has it, with the numbers n and chunks that it was told
+pub room-is : (m : Columns) (kept elims : List ℕ) (len : ℕ) (b : Buffers) (n chunks : ℕ) (t : Told) → n ≡ columnCount m → chunks ≡ chunkCount (m .nrows) len
+    → t ≡ noRoom (roomList n (m .nrows) (entryCount m) (blockCount kept) (blockCount elims) chunks b) → t ≡ noRoom (room m kept elims len b)
+unfolding room
+room-is m kept elims len b n chunks t p q e = e ∙ rw (p, q)
 
 -- ---- what the functions ask
 
@@ -304,3 +322,19 @@ module _ (m : Columns) (kept elims : List ℕ) (len : ℕ) (b : Buffers) where
       → z .elims ≡ spread (chunkSpans m elims len) (chunkCount (m .nrows) len) (b .elims) → z ≡ planOf m kept elims len b
   unfolding planOf
   plan-of z p₁ p₂ p₃ p₄ p₅ p₆ p₇ p₈ p₉ = rw (← p₁, ← p₂, ← p₃, ← p₄, ← p₅, ← p₆, ← p₇, ← p₈, ← p₉)
+
+-- ---- what the calls told, as the code found it
+
+pub parts-fact : (rest parts : Answer) (m : Columns) (kept elims : List ℕ) (len : ℕ) → told rest ≡ chunkTold len → told parts ≡ partsTold m kept elims (told rest) → parts ≡ Done → done ≡ partsTold m kept elims (chunkTold len)
+parts-fact rest parts m kept elims len e q d = told-done parts _ (rw e at q) d
+
+pub room-fact : (fits : Answer) (m : Columns) (kept elims : List ℕ) (len : ℕ) (b : Buffers) (n chunks : ℕ) → n ≡ columnCount m → chunks ≡ chunkCount (m .nrows) len
+    → told fits ≡ noRoom (roomList n (m .nrows) (entryCount m) (blockCount kept) (blockCount elims) chunks b) → fits ≡ Done → done ≡ noRoom (room m kept elims len b)
+room-fact fits m kept elims len b n chunks p q e d = told-done fits _ (room-is m kept elims len b n chunks (told fits) p q e) d
+
+module _ (walked : Answer) (kept elims map map′ : List ℕ) (n k : ℕ) (e : n ≡ k) (q : record { told = told walked; map = map′ } ≡ walkBlocks n (claims n kept elims) map) where
+  pub walk-fact : walked ≡ Done → record { told = done; map = map′ } ≡ walkBlocks k (claims k kept elims) map
+  walk-fact d = rw (← e) (rw d at q)
+
+  pub walk-refused-fact : (r : Refusal) → walked ≡ Refused r → record { told = refused r; map = map′ } ≡ walkBlocks k (claims k kept elims) map
+  walk-refused-fact r d = rw (← e) (rw d at q)

@@ -50,18 +50,21 @@ abbrev pub spanRoom : Spread → ℕ → ℕ → List ℕ → List ℕ
 spanRoom s chunks entries rest =
     length (s .starts) ∷ (chunks + 1) ∷ length (s .lo) ∷ entries ∷ length (s .hi) ∷ entries ∷ length (s .local) ∷ entries ∷ rest
 
--- length and need of each buffer
+-- length and need of each buffer, for n columns, that many rows, entries, kept and eliminated blocks, and chunks
+abbrev pub roomList : ℕ → ℕ → ℕ → ℕ → ℕ → ℕ → Buffers → List ℕ
+roomList n nrows entries kept elims chunks b =
+    length (b .map) ∷ n
+    ∷ length (b .keptCols) ∷ n
+    ∷ length (b .elimsCols) ∷ n
+    ∷ length (b .elimsBlocks) ∷ n
+    ∷ length (b .owners) ∷ nrows
+    ∷ listRoom (b .rowLists) nrows elims
+    (listRoom (b .visible) entries kept
+    (spanRoom (b .kept) chunks entries
+    (spanRoom (b .elims) chunks entries [])))
+
 unfoldable pub room : Columns → List ℕ → List ℕ → ℕ → Buffers → List ℕ
-room m kept elims len b =
-    length (b .map) ∷ columnCount m
-    ∷ length (b .keptCols) ∷ columnCount m
-    ∷ length (b .elimsCols) ∷ columnCount m
-    ∷ length (b .elimsBlocks) ∷ columnCount m
-    ∷ length (b .owners) ∷ m .nrows
-    ∷ listRoom (b .rowLists) (m .nrows) (blockCount elims)
-    (listRoom (b .visible) (entryCount m) (blockCount kept)
-    (spanRoom (b .kept) (chunkCount (m .nrows) len) (entryCount m)
-    (spanRoom (b .elims) (chunkCount (m .nrows) len) (entryCount m) [])))
+room m kept elims len b = roomList (columnCount m) (m .nrows) (entryCount m) (blockCount kept) (blockCount elims) (chunkCount (m .nrows) len) b
 
 -- ---- what is told
 
