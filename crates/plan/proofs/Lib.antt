@@ -5,4 +5,7 @@ pub mod OwnerCalls
 pub mod ConnectedLaws
 pub mod RowRules
 pub mod RowLaws
+pub mod PartLaws
+pub mod VisibleRules
+pub mod ViewRules
 pub mod Cases

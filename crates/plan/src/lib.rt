@@ -3,3 +3,4 @@
 pub mod owner;
 mod owners;
 mod row_lists;
+mod visible;
