@@ -8,4 +8,5 @@ pub mod RowLaws
 pub mod PartLaws
 pub mod VisibleRules
 pub mod ViewRules
+pub mod VisibleLaws
 pub mod Cases
