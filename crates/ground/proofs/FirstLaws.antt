@@ -140,6 +140,21 @@ module _ (bad : ℕ → Bool) where
       go (no p) (yes q) = let z : _≡_ {A = ℕ} 0 1 = cc (first-before lo hi k l q, e) in absurd (omega arith)
       go (no p) (no q) = omega arith
 
+  -- the place that parts those where it does not hold from those where it holds
+  pub first-split : (lo k hi : ℕ) → lo ≤ k → k ≤ hi → None bad lo k → ((i : ℕ) → k ≤ i → i < hi → bad i ≡ true) → first bad lo hi ≡ k
+  first-split lo k hi l h none all = go (decLt k hi)
+    where
+      go : Dec (k < hi) → first bad lo hi ≡ k
+      go (yes q) = first-is lo hi k l q (all k (omega arith) q) none
+      go (no q) = let e : k ≡ hi = omega arith in first-past lo hi (omega arith) (rw e at none) ∙ sym e
+
+  -- the first place, and the rest
+  pub some-first : (lo hi : ℕ) → lo < hi → some bad lo hi ≡ (bad lo || some bad (lo + 1) hi)
+  some-first lo hi h = sym (some-turn false (bad lo) h refl refl)
+
+  pub some-none : (lo hi : ℕ) → hi ≤ lo → some bad lo hi ≡ false
+  some-none lo hi h = none-past lo hi (λ k a b. absurd (omega arith))
+
   -- one place more
   pub first-more : (k : ℕ) → first bad 0 (k + 1) ≡ cond (some bad 0 k) (first bad 0 k) (cond (bad k) k (k + 1))
   first-more k = go (some bad 0 k) refl (bad k) refl

@@ -5,6 +5,7 @@ pub mod FoldLaws
 pub mod FirstLaws
 pub mod EachLaws
 pub mod ListLaws
+pub mod NumberLaws
 pub mod BucketLaws
 pub mod BucketRules
 pub mod DeterminedLaws

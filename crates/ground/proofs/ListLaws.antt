@@ -1,12 +1,12 @@
--- What a loop that writes a list place by place, `for i in 0..n { y[i] = g(i); }`, leaves there; and what a list that a walk hands on holds at
--- each place. Assumes nothing.
+-- What a loop that writes a list place by place, `for i in 0..n { y[i] = g(i); }`, leaves there; a list in parts; and what a list that a walk
+-- hands on holds at each place. Assumes nothing.
 use mathlib.Core.Path.{_≡_, refl, sym, ap, _∙_}
 use mathlib.Core.List.{List, [], _∷_, _++_, append-nil}
 use Prim.Native.Nat.{ℕ, zero, suc, _+_, _-_, _≤_, _<_}
 use native.Mathlib.Decide.{decLt, ℕ-discrete}
 use native.Mathlib.Omega.{arith}
-use lib.ListN.{length, getD, set, drop, length-drop, length-append, length-set, replicate, length-replicate, getD-replicate, List·getD-append}
-use lib.Seq.{drop-length, getD-drop, getD-append-add, getD-set-same, getD-set-other, ext-getD}
+use lib.ListN.{length, getD, set, take, drop, length-drop, length-append, take-append-drop, length-set, replicate, length-replicate, getD-replicate, List·getD-append}
+use lib.Seq.{slice, take-take, take-add, drop-at, drop-length, length-take-le, getD-take, getD-drop, getD-append-add, getD-set-same, getD-set-other, ext-getD}
 use Rattle.ground.specs.Range.{range}
 use Rattle.ground.specs.Gather.{gather, listOf}
 use Rattle.ground.proofs.RangeLaws.{range-keeps, range-seen, range-idle, range-split, range-last}
@@ -66,6 +66,23 @@ pub list-back : {A : Type 0} (d : A) (xs : List A) → listOf (λ i. getD xs i d
 list-back d xs =
     ext-getD d _ _ (length-listOf (λ i. getD xs i d) d (length xs)) (λ r h.
     getD-listOf (λ i. getD xs i d) d (length xs) r (rw (length-listOf (λ i. getD xs i d) d (length xs)) at h))
+
+-- ---- a list in parts
+
+module _ {A : Type 0} (f t : ℕ) (l : List A) where
+  pub getD-slice : (d : A) (i : ℕ) → f + i < t → getD (slice f t l) i d ≡ getD l (f + i) d
+  getD-slice d i h = getD-drop f (take t l) i d ∙ getD-take t l (f + i) d h
+
+  pub take-slice : f ≤ t → take t l ≡ take f l ++ slice f t l
+  take-slice h = sym (take-append-drop f (take t l)) ∙ ap (λ (r : List A). r ++ slice f t l) (take-take f t l h)
+
+  pub in-parts : f ≤ t → l ≡ take f l ++ slice f t l ++ drop t l
+  in-parts h = sym (take-append-drop t l) ∙ ap (λ (r : List A). r ++ drop t l) (take-slice h)
+
+  pub slice-take : f ≤ t → t ≤ length l → take (t - f) (drop f l) ≡ slice f t l
+  slice-take h k =
+      let u : f + (t - f) ≡ t = omega arith in
+      sym (drop-at (take f l) (take (t - f) (drop f l)) f (length-take-le f l (omega arith))) ∙ ap (drop f) (sym (take-add f (t - f) l) ∙ ap (λ (n : ℕ). take n l) u)
 
 -- ---- lists by their places
 

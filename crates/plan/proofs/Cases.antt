@@ -1,5 +1,5 @@
--- Worked cases, computed from the definitions: the built-in hall's owners and row lists, and its refusal 10 where column 2 is moved to rows 1
--- and 4. The owners are lent with six places and the lists with seven, all of which hold 7. Assumes nothing.
+-- Worked cases, computed from the definitions: the built-in hall's owners, row lists and visible list, and its refusal 10 where column 2 is moved
+-- to rows 1 and 4. The owners are lent with six places and the lists with seven, all of which hold 7. Assumes nothing.
 use mathlib.Core.Path.{_≡_, refl}
 use mathlib.Core.List.{List, [], _∷_}
 use Prim.Native.Nat.{ℕ}
@@ -10,7 +10,7 @@ use Rattle.columns.specs.Refusals.{tell, done, onPass}
 use Rattle.columns.specs.Columns.{Columns, firstIn, endIn}
 use Rattle.blocks.specs.Claims.{mark}
 use Rattle.plan.specs.Owners.{inColumn, inBlock, ownerOf, entryAt, columnEntries, blockEntries, holder, clashes, connectedTold, patternOf, ownersOf}
-use Rattle.plan.specs.Lists.{rowsOf, listed}
+use Rattle.plan.specs.Lists.{rowsOf, columnSees, blockSees, visibleOf, listed}
 
 abbrev elims : List ℕ
 elims = 1 ∷ 1 ∷ 2 ∷ 1 ∷ []
@@ -35,3 +35,7 @@ moved-owners = refl
 pub hall-lists : listed (rowsOf hall elims) 2 (replicate 7 7) (replicate 7 7) ≡ record { list = 0 ∷ 1 ∷ 3 ∷ 4 ∷ 7 ∷ 7 ∷ 7 ∷ []; starts = 0 ∷ 2 ∷ 4 ∷ 7 ∷ 7 ∷ 7 ∷ 7 ∷ [] }
 unfolding first firstN gather gatherN firstIn endIn inColumn inBlock ownerOf rowsOf listed
 hall-lists = refl
+
+pub hall-visible : listed (visibleOf hall (0 ∷ 1 ∷ []) elims) 1 (replicate 7 7) (replicate 7 7) ≡ record { list = 0 ∷ 1 ∷ 7 ∷ 7 ∷ 7 ∷ 7 ∷ 7 ∷ []; starts = 0 ∷ 2 ∷ 7 ∷ 7 ∷ 7 ∷ 7 ∷ 7 ∷ [] }
+unfolding first firstN gather gatherN firstIn endIn inColumn inBlock ownerOf columnSees blockSees visibleOf listed
+hall-visible = refl

@@ -14,5 +14,9 @@ pub mod SpanBridge
 pub mod RunRules
 pub mod PutRules
 pub mod SpanRules
+pub mod PartLaws
+pub mod VisibleRules
+pub mod ViewRules
+pub mod VisibleLaws
 pub mod PlanCalls
 pub mod Cases

@@ -3,7 +3,7 @@ use Rattle.ground.proofs.ListLaws.{listOf-same}
 use Rattle.ground.proofs.FirstLaws.{first-high}
 use borrow.Author.Needs.{needs}
 use mathlib.Core.Path.{_≡_, refl, sym, ap, _∙_}
-use mathlib.Core.Bool.{true, false}
+use mathlib.Core.Bool.{Bool, true, false}
 use mathlib.Core.List.{List, _++_}
 use Prim.Native.Nat.{ℕ, _+_, _-_, _≤_, _<_}
 use native.Mathlib.Nat.{le-antisymm, le-trans}
@@ -24,7 +24,7 @@ use Rattle.columns.specs.Refusals.{Told, done, refused, told, Passes, onPass}
 use Rattle.columns.specs.Columns.{Columns, columnsOf, Keeps}
 use Rattle.columns.proofs.RefusalLaws.{pass-refused, passed}
 use Rattle.columns.proofs.CheckLaws.{column-there, column-run}
-use Rattle.blocks.specs.Sides.{firstOf}
+use Rattle.blocks.specs.Sides.{firstOf, sideOf}
 use Rattle.blocks.specs.Claims.{mark, marked, Parted}
 use Rattle.blocks.proofs.WalkRules.{marked-all}
 use Rattle.plan.specs.Owners.{inColumn, inBlock, Entry, entry, Owned, sideEntries, clashes, firstClash, connectedTold, ownerOf, ownerList, patternOf, ownersOf}
@@ -120,29 +120,31 @@ module _ (ptrs rows side : List ℕ) (n k : ℕ) (h : n ≤ k) where
 pub side-in : (nrows : ℕ) (ptrs rows elims : List ℕ) (n k : ℕ) → OwnersIn (patternOf nrows ptrs rows) elims n → k ≡ n → SideIn ptrs rows elims k
 side-in nrows ptrs rows elims n k f e = rw e (more-rows ptrs rows elims nrows n (f .room) (f .side))
 
--- columns and blocks that passed their checks, and room for the owners
-pub owners-in : (nrows : ℕ) (ptrs rows : List ℕ) (values : List Float) (kept elims : List ℕ) (n : ℕ) → Keeps (columnsOf nrows ptrs rows values) → Parted (length ptrs - 1) kept elims
-    → nrows ≤ n → OwnersIn (patternOf nrows ptrs rows) elims n
-owners-in nrows ptrs rows values kept elims n k p h =
-    let s = p .right true in
+-- columns and blocks that passed their checks: e says which side
+pub parted-side : (nrows : ℕ) (ptrs rows : List ℕ) (values : List Float) (kept elims : List ℕ) (e : Bool) → Keeps (columnsOf nrows ptrs rows values) → Parted (length ptrs - 1) kept elims
+    → SideIn ptrs rows (sideOf e kept elims) nrows
+parted-side nrows ptrs rows values kept elims e k p =
+    let s = p .right e in
     record {
-      room = h;
-      side = record {
-        each = λ b l. record {
-          there = l;
-          few = le-trans l (s .few);
-          columns = λ i c q. (let j = s .inside b i c q in record {
-            column = column-there (k .shaped) c j;
-            inside = record {
-              each = λ e low high. record {
-                there = le-trans high (column-run (k .shaped) c j .inside);
-                below = k .sorted .below c e (record { column = j; low = low; high = high });
-              };
+      each = λ b l. record {
+        there = l;
+        few = le-trans l (s .few);
+        columns = λ i c q. (let j = s .inside b i c q in record {
+          column = column-there (k .shaped) c j;
+          inside = record {
+            each = λ r low high. record {
+              there = le-trans high (column-run (k .shaped) c j .inside);
+              below = k .sorted .below c r (record { column = j; low = low; high = high });
             };
-          });
-        };
+          };
+        });
       };
     }
+
+-- and room for the owners
+pub owners-in : (nrows : ℕ) (ptrs rows : List ℕ) (values : List Float) (kept elims : List ℕ) (n : ℕ) → Keeps (columnsOf nrows ptrs rows values) → Parted (length ptrs - 1) kept elims
+    → nrows ≤ n → OwnersIn (patternOf nrows ptrs rows) elims n
+owners-in nrows ptrs rows values kept elims n k p h = record { room = h; side = parted-side nrows ptrs rows values kept elims true k p }
 
 -- no owner looks at the values
 pub owners-values : (nrows : ℕ) (ptrs rows : List ℕ) (values : List Float) (elims o : List ℕ) → ownersOf (patternOf nrows ptrs rows) elims o ≡ ownersOf (columnsOf nrows ptrs rows values) elims o

@@ -1,7 +1,8 @@
 -- Row lists and visible lists, flat with their starts. Assumes nothing.
+use mathlib.Core.Path.{_≡_}
 use mathlib.Core.Bool.{Bool, cond}
 use mathlib.Core.List.{List, [], _∷_, _++_}
-use Prim.Native.Nat.{ℕ, _+_}
+use Prim.Native.Nat.{ℕ, _+_, _≤_, _<_}
 use lib.Dec.{eqb}
 use lib.ListN.{length, getD, drop}
 use Rattle.ground.specs.First.{some}
@@ -43,3 +44,12 @@ blockSees m kept elims b e = some (λ i. columnSees m elims e (firstOf kept b + 
 -- the owners of kept block b's rows, ascending, each once, the mark never
 unfoldable pub visibleOf : Columns → List ℕ → List ℕ → ℕ → List ℕ
 visibleOf m kept elims b = gather (λ e. cond (blockSees m kept elims b e) (e ∷ []) []) 0 (blockCount elims)
+
+-- what it comes to: e owns a row in which a column of kept block b has an entry
+pub record Visible (m : Columns) (kept elims : List ℕ) (b e : ℕ) : Type 0 where
+  pub offset : ℕ
+  pub place : ℕ
+  pub inside : offset < dofOf kept b
+  pub low : firstPlace m (firstOf kept b + offset) ≤ place
+  pub high : place < endPlace m (firstOf kept b + offset)
+  pub owns : ownerOf m elims (getD (m .rows) place 0) ≡ e
