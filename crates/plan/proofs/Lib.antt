@@ -11,4 +11,5 @@ pub mod SpanBridge
 pub mod RunRules
 pub mod PutRules
 pub mod SpanRules
+pub mod SpanLaws
 pub mod Cases
