@@ -12,4 +12,6 @@ pub mod RunRules
 pub mod PutRules
 pub mod SpanRules
 pub mod SpanLaws
+pub mod EntryLaws
+pub mod SideSpanLaws
 pub mod Cases
