@@ -17,6 +17,12 @@ use Rattle.blocks.specs.Claims.{Parted}
 use Rattle.blocks.proofs.MapLaws.{cols-in, cols-once}
 use Rattle.plan.specs.Entries.{entriesIn}
 
+-- they go by what stands at the first places of the list
+pub entries-same : (ptrs cs ds : List ℕ) (n : ℕ) → ((l : ℕ) → l < n → getD cs l 0 ≡ getD ds l 0) → entriesIn ptrs cs n ≡ entriesIn ptrs ds n
+unfolding entriesIn
+entries-same ptrs cs ds zero e = refl
+entries-same ptrs cs ds (suc n) e = rw (entries-same ptrs cs ds n (λ l h. e l (omega arith)), e n (omega arith))
+
 abbrev entriesOf : List ℕ → ℕ → ℕ
 entriesOf ptrs j = endIn ptrs j - firstIn ptrs j
 

@@ -18,5 +18,7 @@ pub mod PartLaws
 pub mod VisibleRules
 pub mod ViewRules
 pub mod VisibleLaws
+pub mod SpanLaws
+pub mod SideSpanLaws
 pub mod PlanCalls
 pub mod Cases

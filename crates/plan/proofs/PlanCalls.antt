@@ -38,10 +38,9 @@ use Rattle.plan.specs.SpanWalk.{Chunked, ColumnRises, SpansFit}
 use Rattle.plan.specs.Plan.{Buffers, columnBlocks, roomList, room, planEarly, planBlocks, planConnected, planTold, planOf, marks, lent, planLeft, Outcome, planned}
 use Rattle.plan.specs.ColumnLists.{ColumnsFit, Counted, columnsListed, blocksListed}
 use Rattle.plan.proofs.ChunkLaws.{chunk-passes}
-use Rattle.plan.proofs.FlatLaws.{flat-same, spread-same}
 use Rattle.plan.proofs.OwnerCalls.{owners-in, owners-values, told-pass, left-pass, left-refused}
 use Rattle.plan.proofs.RowLaws.{lists-fit, lists-of}
-use Rattle.plan.proofs.EntryLaws.{side-entries}
+use Rattle.plan.proofs.SideSpanLaws.{pattern-spans, spanned-same, side-fit}
 
 -- ---- what passed checks give
 
@@ -100,27 +99,6 @@ room-is m kept elims len b n chunks t p q e = e ∙ rw (p, q)
 
 -- ---- what the functions ask
 
-pub column-rises : (m : Columns) (j : ℕ) → Keeps m → j < columnCount m → ColumnRises (m .ptrs) (m .rows) (m .nrows) j
-column-rises m j k h = record {
-  inside = record {
-    column = column-there (k .shaped) j h;
-    inside = record {
-      each = λ p low high. record {
-        there = le-trans high (column-run (k .shaped) j h .inside);
-        below = k .sorted .below j p (record { column = h; low = low; high = high });
-      };
-    };
-  };
-  few = le-trans (column-run (k .shaped) j h .inside) (k .small .few-entries);
-  ascends = λ p low high. k .sorted .ascends j p (record { column = h; low = omega arith; high = high }) low;
-}
-
--- the first columns of a list go by what stands there
-entries-same : (ptrs cs ds : List ℕ) (n : ℕ) → ((l : ℕ) → l < n → getD cs l 0 ≡ getD ds l 0) → entriesIn ptrs cs n ≡ entriesIn ptrs ds n
-unfolding entriesIn
-entries-same ptrs cs ds zero e = refl
-entries-same ptrs cs ds (suc n) e = rw (entries-same ptrs cs ds n (λ l h. e l (omega arith)), e n (omega arith))
-
 module _ (m : Columns) (kept elims : List ℕ) (len : ℕ) (b : Buffers) (r : Ready m kept elims len b) where
   abbrev buffer-room : (k : ℕ) → k < length (room m kept elims len b) / 2 → needOf (room m kept elims len b) k ≤ lengthOf (room m kept elims len b) k
   buffer-room k h = room-right (room m kept elims len b) (r .roomy) k h
@@ -168,20 +146,9 @@ module _ (m : Columns) (kept elims : List ℕ) (len : ℕ) (b : Buffers) (r : Re
 
     spans-fit : (nstarts nlo nhi nlocal : ℕ) → chunkCount (m .nrows) len < nstarts → entryCount m ≤ nlo → entryCount m ≤ nhi → entryCount m ≤ nlocal
         → SpansFit (patternOf (m .nrows) (m .ptrs) (m .rows)) (cols side ++ rest) (sideDof side) len nstarts nlo nhi nlocal
-    spans-fit nstarts nlo nhi nlocal s lo hi local =
-        let q : entriesIn (m .ptrs) (cols side ++ rest) (sideDof side) ≤ entryCount m =
-            rw (entries-same (m .ptrs) (cols side ++ rest) (cols side) (sideDof side) col-is) (side-entries m kept elims (r .keeps) (r .parted) e) in
-        record {
-          chunked = r .chunked;
-          listed = (let a = length-append (cols side) rest in let c = cols-length side in omega arith);
-          few-columns = le-trans (dofs e) (r .keeps .small .few-columns);
-          columns = λ l h. rw (col-is l h) (column-rises m (getD (cols side) l 0) (r .keeps) (cols-in (columnCount m) kept elims (r .parted) e l h));
-          few-entries = le-trans q (r .keeps .small .few-entries);
-          started = s;
-          room-lo = le-trans q lo;
-          room-hi = le-trans q hi;
-          room-local = le-trans q local;
-        }
+    spans-fit nstarts nlo nhi nlocal =
+        side-fit m kept elims (r .keeps) (r .parted) e len (r .chunked) (cols side ++ rest) nstarts nlo nhi nlocal
+        (let a = length-append (cols side) rest in let c = cols-length side in omega arith) col-is
 
   pub kept-spans : (rest : List ℕ) → SpansFit (patternOf (m .nrows) (m .ptrs) (m .rows)) (cols kept ++ rest) (sideDof kept) len (length (b .kept .starts)) (length (b .kept .lo)) (length (b .kept .hi)) (length (b .kept .local))
   unfolding room
@@ -197,14 +164,12 @@ module _ (m : Columns) (kept elims : List ℕ) (len : ℕ) (b : Buffers) (r : Re
 
 -- what `spans` leaves of a side's list of columns is the side's spans
 module _ (m : Columns) (side rest : List ℕ) (len : ℕ) where
-  local-side : (c : ℕ) → localSpans (patternOf (m .nrows) (m .ptrs) (m .rows)) (cols side ++ rest) (sideDof side) len c ≡ chunkSpans m side len c
-  unfolding localSpans columnSpan placeIn
-  local-side c = gather-same _ _ 0 (sideDof side) (λ l _ h. ap (λ (j : ℕ). columnSpan m len c l j) (List·getD-append (cols side) rest 0 l (rw (cols-length side) h)))
-
   pub spanned-side : (s : Spread) → spanned (patternOf (m .nrows) (m .ptrs) (m .rows)) (cols side ++ rest) (sideDof side) len s
       ≡ record { count = length (sideSpans m side len); left = spread (chunkSpans m side len) (chunkCount (m .nrows) len) s }
   unfolding spanned
-  spanned-side s = rw (flat-same _ _ (chunkCount (m .nrows) len) (λ c _. local-side c), spread-same _ _ (chunkCount (m .nrows) len) (λ c _. local-side c) s)
+  spanned-side s =
+      pattern-spans m (cols side ++ rest) (sideDof side) len s
+      ∙ spanned-same m (cols side ++ rest) (cols side) (sideDof side) len (λ l h. List·getD-append (cols side) rest 0 l (rw (cols-length side) h)) s
 
 -- ---- a call by how far it gets
 

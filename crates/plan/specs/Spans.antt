@@ -1,7 +1,8 @@
 -- Chunks of rows and a side's spans. Assumes nothing.
-use mathlib.Core.Bool.{Bool, _&&_, _||_, cond}
+use mathlib.Core.Path.{_≡_}
+use mathlib.Core.Bool.{Bool, true, _&&_, _||_, cond}
 use mathlib.Core.List.{List, [], _∷_, _++_, map}
-use Prim.Native.Nat.{ℕ, zero, suc, _+_, _-_, _*_, _/_}
+use Prim.Native.Nat.{ℕ, zero, suc, _+_, _-_, _*_, _/_, _≤_, _<_}
 use lib.Dec.{eqb, leb, ltb}
 use lib.ListN.{length, getD, drop}
 use Rattle.ground.specs.First.{first, some}
@@ -89,3 +90,39 @@ spanned m cs n len s = record {
   count = length (flat (localSpans m cs n len) (chunkCount (m .nrows) len));
   left = spread (localSpans m cs n len) (chunkCount (m .nrows) len) s;
 }
+
+-- ---- what it comes to, for the first n of the columns cs
+
+-- place p is an entry of the column with local number l
+pub record EntryIn (m : Columns) (cs : List ℕ) (n l p : ℕ) : Type 0 where
+  pub column : l < n
+  pub low : firstPlace m (getD cs l 0) ≤ p
+  pub high : p < endPlace m (getD cs l 0)
+
+-- a span of chunk c: it has an entry, and its entries are those of its column that lie in the chunk
+pub record SpanIs (m : Columns) (cs : List ℕ) (n len c : ℕ) (s : Span) : Type 0 where
+  pub some : s .lo < s .hi
+  pub inside : (p : ℕ) → s .lo ≤ p → p < s .hi → EntryIn m cs n (s .local) p × (placeIn m len c p ≡ true)
+  pub whole : (p : ℕ) → EntryIn m cs n (s .local) p → placeIn m len c p ≡ true → (s .lo ≤ p) × (p < s .hi)
+
+-- all chunks' spans, and the k-th of some spans
+abbrev pub allSpans : Columns → List ℕ → ℕ → ℕ → List Span
+allSpans m cs n len = flat (localSpans m cs n len) (chunkCount (m .nrows) len)
+
+abbrev pub spanIn : List Span → ℕ → Span
+spanIn ss k = getD ss k (record { lo = 0; hi = 0; local = 0 })
+
+-- the k-th of them has place p
+pub record HasPlace (ss : List Span) (k p : ℕ) : Type 0 where
+  pub there : k < length ss
+  pub low : spanIn ss k .lo ≤ p
+  pub high : p < spanIn ss k .hi
+
+-- chunk c and local number l have one span that has place p, it stands among the chunk's, and no other span has p
+pub record InOne (m : Columns) (cs : List ℕ) (n len c l p : ℕ) : Type 0 where
+  pub place : ℕ
+  pub has : HasPlace (allSpans m cs n len) place p
+  pub local-is : spanIn (allSpans m cs n len) place .local ≡ l
+  pub low : length (flat (localSpans m cs n len) c) ≤ place
+  pub high : place < length (flat (localSpans m cs n len) (c + 1))
+  pub once : (k : ℕ) → HasPlace (allSpans m cs n len) k p → k ≡ place
