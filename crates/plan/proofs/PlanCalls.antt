@@ -29,17 +29,20 @@ use Rattle.blocks.proofs.MapLaws.{cols-in}
 use Rattle.blocks.proofs.SideLaws.{cols-length}
 use Rattle.blocks.proofs.WalkRules.{marked-all}
 use Rattle.plan.specs.Entries.{entriesIn}
-use Rattle.plan.specs.Owners.{Owned, sideEntries, connectedTold, ownerList, patternOf, ownersOf}
+use Rattle.plan.specs.Owners.{Owned, sideEntries, connectedTold, ownerOf, ownerList, patternOf, ownersOf}
 use Rattle.plan.specs.OwnerWalk.{OwnersIn}
 use Rattle.plan.specs.Lists.{Listed, rowsOf, rowsWith, visibleOf, listed}
 use Rattle.plan.specs.RowLists.{ListsFit}
+use Rattle.plan.specs.VisibleWalk.{visibleWith, VisibleFits}
 use Rattle.plan.specs.Spans.{chunkTold, chunkCount, placeIn, columnSpan, localSpans, chunkSpans, sideSpans, Spread, spread, Spanned, spanned}
 use Rattle.plan.specs.SpanWalk.{Chunked, ColumnRises, SpansFit}
 use Rattle.plan.specs.Plan.{Buffers, columnBlocks, roomList, room, planEarly, planBlocks, planConnected, planTold, planOf, marks, lent, planLeft, Outcome, planned}
 use Rattle.plan.specs.ColumnLists.{ColumnsFit, Counted, columnsListed, blocksListed}
 use Rattle.plan.proofs.ChunkLaws.{chunk-passes}
-use Rattle.plan.proofs.OwnerCalls.{owners-in, owners-values, told-pass, left-pass, left-refused}
+use Rattle.plan.proofs.OwnerCalls.{parted-side, owners-in, owners-values, told-pass, left-pass, left-refused}
 use Rattle.plan.proofs.RowLaws.{lists-fit, lists-of}
+use Rattle.plan.proofs.EntryLaws.{side-entries}
+use Rattle.plan.proofs.VisibleLaws.{visible-fits, visible-lists-of}
 use Rattle.plan.proofs.SideSpanLaws.{pattern-spans, spanned-same, side-fit}
 
 -- ---- what passed checks give
@@ -136,6 +139,18 @@ module _ (m : Columns) (kept elims : List ℕ) (len : ℕ) (b : Buffers) (r : Re
   plan-lists rest =
       lists-fit m elims rest (length (b .rowLists .list)) (length (b .rowLists .starts)) (r .keeps .small .few-rows) (r .parted .right true .few) (buffer-room 5 (omega arith))
       (let q = buffer-room 6 (omega arith) in omega arith)
+
+  pub plan-visible : (rest : List ℕ) → VisibleFits (m .ptrs) (m .rows) kept (ownerList m elims ++ rest) (length (b .visible .list)) (length (b .visible .starts))
+  unfolding room
+  plan-visible rest =
+      visible-fits (m .nrows) (m .ptrs) (m .rows) (m .values) kept elims (ownerList m elims ++ rest) (length (b .visible .list)) (length (b .visible .starts)) (r .keeps) (r .parted)
+      (let a = length-append (ownerList m elims) rest in let c = length-listOf (ownerOf m elims) 0 (m .nrows) in omega arith) (side-entries m kept elims (r .keeps) (r .parted) false) (buffer-room 7 (omega arith))
+      (let q = buffer-room 8 (omega arith) in omega arith)
+
+  pub visible-left : (owners′ : List ℕ) (l : Listed) → owners′ ≡ ownerList m elims ++ drop (m .nrows) (b .owners)
+      → l ≡ listed (visibleWith (m .ptrs) (m .rows) owners′ kept) (blockCount kept) (b .visible .list) (b .visible .starts) → l ≡ listed (visibleOf m kept elims) (blockCount kept) (b .visible .list) (b .visible .starts)
+  visible-left owners′ l e q =
+      q ∙ rw e (visible-lists-of m kept elims (drop (m .nrows) (b .owners)) (r .parted .right true .few) (parted-side (m .nrows) (m .ptrs) (m .rows) (m .values) kept elims false (r .keeps) (r .parted)) (b .visible .list) (b .visible .starts))
 
   module _ (e : Bool) (rest : List ℕ) where
     abbrev side : List ℕ

@@ -4,7 +4,7 @@ use native.Mathlib.Omega.{arith}
 use Rattle.columns.specs.Columns.{columnsOf}
 use Rattle.columns.proofs.CallLaws.{told-refused, told-done}
 use Rattle.plan.specs.Plan.{buffers}
-use Rattle.plan.proofs.PlanCalls.{early-chunked, early-blocks, early-chunks, map-room, plan-ready, room-is, kept-columns, elims-columns, elims-blocks, plan-owners, plan-lists, kept-spans, elims-spans, plan-parts, plan-room, plan-walk, mapped-is, plan-connected, owners-is, plan-all, listed-count, listed-list, numbered-list, span-count, span-lists, rows-listed, plan-of, parts-fact, room-fact, walk-fact, walk-refused-fact}
+use Rattle.plan.proofs.PlanCalls.{early-chunked, early-blocks, early-chunks, map-room, plan-ready, room-is, kept-columns, elims-columns, elims-blocks, plan-owners, plan-lists, plan-visible, visible-left, kept-spans, elims-spans, plan-parts, plan-room, plan-walk, mapped-is, plan-connected, owners-is, plan-all, listed-count, listed-list, numbered-list, span-count, span-lists, rows-listed, plan-of, parts-fact, room-fact, walk-fact, walk-refused-fact}
 use borrow.Author.Needs.{needs}
 use Rattle.plan.proofs.structure.plan.Statement.{statement}
 use Rattle.plan.proofs.structure.plan.Tie as tie
@@ -366,7 +366,7 @@ returns-5 c =
     let b76 = b74 .before .before in
     let b77 = b76 .before in
     let b100 = b77 .before .before .before .before .before .before .before .before .before .before .before .before .before .before .before .before .before .before .before .before .before .before .before in
-    plan-all (columnsOf (b100 .args .nrows) (b100 .args .ptrs .now) (b100 .args .rows .now) (b100 .args .values .now)) (b100 .args .kept .now) (b100 .args .elims .now) (b100 .args .chunk-len) (buffers (b100 .args .map .now) (b100 .args .kept-cols .now) (b100 .args .elims-cols .now) (b100 .args .elims-blocks .now) (b100 .args .owners .now) (b100 .args .row-list .now) (b100 .args .row-starts .now) (b100 .args .visible .now) (b100 .args .visible-starts .now) (b100 .args .kept-starts .now) (b100 .args .kept-lo .now) (b100 .args .kept-hi .now) (b100 .args .kept-local .now) (b100 .args .elims-starts .now) (b100 .args .elims-lo .now) (b100 .args .elims-hi .now) (b100 .args .elims-local .now)) (parts-fact (b77 .check-chunk .result) (b76 .check-parts .result) (columnsOf (b100 .args .nrows) (b100 .args .ptrs .now) (b100 .args .rows .now) (b100 .args .values .now)) (b100 .args .kept .now) (b100 .args .elims .now) (b100 .args .chunk-len) (b77 .check-chunk .ensures) (b76 .check-parts .ensures) (b74 .enum-told .given .1)) (room-fact (b70 .no-room .result) (columnsOf (b100 .args .nrows) (b100 .args .ptrs .now) (b100 .args .rows .now) (b100 .args .values .now)) (b100 .args .kept .now) (b100 .args .elims .now) (b100 .args .chunk-len) (buffers (b100 .args .map .now) (b100 .args .kept-cols .now) (b100 .args .elims-cols .now) (b100 .args .elims-blocks .now) (b100 .args .owners .now) (b100 .args .row-list .now) (b100 .args .row-starts .now) (b100 .args .visible .now) (b100 .args .visible-starts .now) (b100 .args .kept-starts .now) (b100 .args .kept-lo .now) (b100 .args .kept-hi .now) (b100 .args .kept-local .now) (b100 .args .elims-starts .now) (b100 .args .elims-lo .now) (b100 .args .elims-hi .now) (b100 .args .elims-local .now)) _ _ (b73 .column-count .ensures) (b72 .chunk-count .ensures) (b70 .no-room .ensures) (b68 .enum-told2 .given .1)) _ (walk-fact (b66 .walk-blocks .result) (b100 .args .kept .now) (b100 .args .elims .now) _ _ _ _ (b73 .column-count .ensures) (b66 .walk-blocks .ensures) (b62 .enum-told3 .given .1)) _ _ (rw (b56 .enum-told4 .given .1) at (b60 .row-owners .ensures)) refl _ _ _ (span-count (columnsOf (b100 .args .nrows) (b100 .args .ptrs .now) (b100 .args .rows .now) (b100 .args .values .now)) (b100 .args .kept .now) (b100 .args .elims .now) (b100 .args .chunk-len) (buffers (b100 .args .map .now) (b100 .args .kept-cols .now) (b100 .args .elims-cols .now) (b100 .args .elims-blocks .now) (b100 .args .owners .now) (b100 .args .row-list .now) (b100 .args .row-starts .now) (b100 .args .visible .now) (b100 .args .visible-starts .now) (b100 .args .kept-starts .now) (b100 .args .kept-lo .now) (b100 .args .kept-hi .now) (b100 .args .kept-local .now) (b100 .args .elims-starts .now) (b100 .args .elims-lo .now) (b100 .args .elims-hi .now) (b100 .args .elims-local .now)) (b100 .args .kept .now) _ _ _ _ _ _ (b54 .list-columns .ensures) (b22 .spans .ensures)) (span-count (columnsOf (b100 .args .nrows) (b100 .args .ptrs .now) (b100 .args .rows .now) (b100 .args .values .now)) (b100 .args .kept .now) (b100 .args .elims .now) (b100 .args .chunk-len) (buffers (b100 .args .map .now) (b100 .args .kept-cols .now) (b100 .args .elims-cols .now) (b100 .args .elims-blocks .now) (b100 .args .owners .now) (b100 .args .row-list .now) (b100 .args .row-starts .now) (b100 .args .visible .now) (b100 .args .visible-starts .now) (b100 .args .kept-starts .now) (b100 .args .kept-lo .now) (b100 .args .kept-hi .now) (b100 .args .kept-local .now) (b100 .args .elims-starts .now) (b100 .args .elims-lo .now) (b100 .args .elims-hi .now) (b100 .args .elims-local .now)) (b100 .args .elims .now) _ _ _ _ _ _ (b50 .list-columns2 .ensures) (b8 .spans2 .ensures)) (plan-of (columnsOf (b100 .args .nrows) (b100 .args .ptrs .now) (b100 .args .rows .now) (b100 .args .values .now)) (b100 .args .kept .now) (b100 .args .elims .now) (b100 .args .chunk-len) (buffers (b100 .args .map .now) (b100 .args .kept-cols .now) (b100 .args .elims-cols .now) (b100 .args .elims-blocks .now) (b100 .args .owners .now) (b100 .args .row-list .now) (b100 .args .row-starts .now) (b100 .args .visible .now) (b100 .args .visible-starts .now) (b100 .args .kept-starts .now) (b100 .args .kept-lo .now) (b100 .args .kept-hi .now) (b100 .args .kept-local .now) (b100 .args .elims-starts .now) (b100 .args .elims-lo .now) (b100 .args .elims-hi .now) (b100 .args .elims-local .now)) _ (mapped-is (columnsOf (b100 .args .nrows) (b100 .args .ptrs .now) (b100 .args .rows .now) (b100 .args .values .now)) (b100 .args .kept .now) (b100 .args .elims .now) (b100 .args .chunk-len) (buffers (b100 .args .map .now) (b100 .args .kept-cols .now) (b100 .args .elims-cols .now) (b100 .args .elims-blocks .now) (b100 .args .owners .now) (b100 .args .row-list .now) (b100 .args .row-starts .now) (b100 .args .visible .now) (b100 .args .visible-starts .now) (b100 .args .kept-starts .now) (b100 .args .kept-lo .now) (b100 .args .kept-hi .now) (b100 .args .kept-local .now) (b100 .args .elims-starts .now) (b100 .args .elims-lo .now) (b100 .args .elims-hi .now) (b100 .args .elims-local .now)) (parts-fact (b77 .check-chunk .result) (b76 .check-parts .result) (columnsOf (b100 .args .nrows) (b100 .args .ptrs .now) (b100 .args .rows .now) (b100 .args .values .now)) (b100 .args .kept .now) (b100 .args .elims .now) (b100 .args .chunk-len) (b77 .check-chunk .ensures) (b76 .check-parts .ensures) (b74 .enum-told .given .1)) (room-fact (b70 .no-room .result) (columnsOf (b100 .args .nrows) (b100 .args .ptrs .now) (b100 .args .rows .now) (b100 .args .values .now)) (b100 .args .kept .now) (b100 .args .elims .now) (b100 .args .chunk-len) (buffers (b100 .args .map .now) (b100 .args .kept-cols .now) (b100 .args .elims-cols .now) (b100 .args .elims-blocks .now) (b100 .args .owners .now) (b100 .args .row-list .now) (b100 .args .row-starts .now) (b100 .args .visible .now) (b100 .args .visible-starts .now) (b100 .args .kept-starts .now) (b100 .args .kept-lo .now) (b100 .args .kept-hi .now) (b100 .args .kept-local .now) (b100 .args .elims-starts .now) (b100 .args .elims-lo .now) (b100 .args .elims-hi .now) (b100 .args .elims-local .now)) _ _ (b73 .column-count .ensures) (b72 .chunk-count .ensures) (b70 .no-room .ensures) (b68 .enum-told2 .given .1)) _ (walk-fact (b66 .walk-blocks .result) (b100 .args .kept .now) (b100 .args .elims .now) _ _ _ _ (b73 .column-count .ensures) (b66 .walk-blocks .ensures) (b62 .enum-told3 .given .1))) (listed-list (columnsOf (b100 .args .nrows) (b100 .args .ptrs .now) (b100 .args .rows .now) (b100 .args .values .now)) (b100 .args .kept .now) (b100 .args .elims .now) (b100 .args .chunk-len) (buffers (b100 .args .map .now) (b100 .args .kept-cols .now) (b100 .args .elims-cols .now) (b100 .args .elims-blocks .now) (b100 .args .owners .now) (b100 .args .row-list .now) (b100 .args .row-starts .now) (b100 .args .visible .now) (b100 .args .visible-starts .now) (b100 .args .kept-starts .now) (b100 .args .kept-lo .now) (b100 .args .kept-hi .now) (b100 .args .kept-local .now) (b100 .args .elims-starts .now) (b100 .args .elims-lo .now) (b100 .args .elims-hi .now) (b100 .args .elims-local .now)) (b100 .args .kept .now) _ _ _ (b54 .list-columns .ensures)) (listed-list (columnsOf (b100 .args .nrows) (b100 .args .ptrs .now) (b100 .args .rows .now) (b100 .args .values .now)) (b100 .args .kept .now) (b100 .args .elims .now) (b100 .args .chunk-len) (buffers (b100 .args .map .now) (b100 .args .kept-cols .now) (b100 .args .elims-cols .now) (b100 .args .elims-blocks .now) (b100 .args .owners .now) (b100 .args .row-list .now) (b100 .args .row-starts .now) (b100 .args .visible .now) (b100 .args .visible-starts .now) (b100 .args .kept-starts .now) (b100 .args .kept-lo .now) (b100 .args .kept-hi .now) (b100 .args .kept-local .now) (b100 .args .elims-starts .now) (b100 .args .elims-lo .now) (b100 .args .elims-hi .now) (b100 .args .elims-local .now)) (b100 .args .elims .now) _ _ _ (b50 .list-columns2 .ensures)) (numbered-list (columnsOf (b100 .args .nrows) (b100 .args .ptrs .now) (b100 .args .rows .now) (b100 .args .values .now)) (b100 .args .kept .now) (b100 .args .elims .now) (b100 .args .chunk-len) (buffers (b100 .args .map .now) (b100 .args .kept-cols .now) (b100 .args .elims-cols .now) (b100 .args .elims-blocks .now) (b100 .args .owners .now) (b100 .args .row-list .now) (b100 .args .row-starts .now) (b100 .args .visible .now) (b100 .args .visible-starts .now) (b100 .args .kept-starts .now) (b100 .args .kept-lo .now) (b100 .args .kept-hi .now) (b100 .args .kept-local .now) (b100 .args .elims-starts .now) (b100 .args .elims-lo .now) (b100 .args .elims-hi .now) (b100 .args .elims-local .now)) (b100 .args .elims .now) _ _ _ (b46 .list-blocks .ensures)) (owners-is (columnsOf (b100 .args .nrows) (b100 .args .ptrs .now) (b100 .args .rows .now) (b100 .args .values .now)) (b100 .args .kept .now) (b100 .args .elims .now) (b100 .args .chunk-len) (buffers (b100 .args .map .now) (b100 .args .kept-cols .now) (b100 .args .elims-cols .now) (b100 .args .elims-blocks .now) (b100 .args .owners .now) (b100 .args .row-list .now) (b100 .args .row-starts .now) (b100 .args .visible .now) (b100 .args .visible-starts .now) (b100 .args .kept-starts .now) (b100 .args .kept-lo .now) (b100 .args .kept-hi .now) (b100 .args .kept-local .now) (b100 .args .elims-starts .now) (b100 .args .elims-lo .now) (b100 .args .elims-hi .now) (b100 .args .elims-local .now)) (parts-fact (b77 .check-chunk .result) (b76 .check-parts .result) (columnsOf (b100 .args .nrows) (b100 .args .ptrs .now) (b100 .args .rows .now) (b100 .args .values .now)) (b100 .args .kept .now) (b100 .args .elims .now) (b100 .args .chunk-len) (b77 .check-chunk .ensures) (b76 .check-parts .ensures) (b74 .enum-told .given .1)) (room-fact (b70 .no-room .result) (columnsOf (b100 .args .nrows) (b100 .args .ptrs .now) (b100 .args .rows .now) (b100 .args .values .now)) (b100 .args .kept .now) (b100 .args .elims .now) (b100 .args .chunk-len) (buffers (b100 .args .map .now) (b100 .args .kept-cols .now) (b100 .args .elims-cols .now) (b100 .args .elims-blocks .now) (b100 .args .owners .now) (b100 .args .row-list .now) (b100 .args .row-starts .now) (b100 .args .visible .now) (b100 .args .visible-starts .now) (b100 .args .kept-starts .now) (b100 .args .kept-lo .now) (b100 .args .kept-hi .now) (b100 .args .kept-local .now) (b100 .args .elims-starts .now) (b100 .args .elims-lo .now) (b100 .args .elims-hi .now) (b100 .args .elims-local .now)) _ _ (b73 .column-count .ensures) (b72 .chunk-count .ensures) (b70 .no-room .ensures) (b68 .enum-told2 .given .1)) _ (walk-fact (b66 .walk-blocks .result) (b100 .args .kept .now) (b100 .args .elims .now) _ _ _ _ (b73 .column-count .ensures) (b66 .walk-blocks .ensures) (b62 .enum-told3 .given .1)) _ _ (rw (b56 .enum-told4 .given .1) at (b60 .row-owners .ensures)) refl) (rows-listed (columnsOf (b100 .args .nrows) (b100 .args .ptrs .now) (b100 .args .rows .now) (b100 .args .values .now)) (b100 .args .kept .now) (b100 .args .elims .now) (b100 .args .chunk-len) (buffers (b100 .args .map .now) (b100 .args .kept-cols .now) (b100 .args .elims-cols .now) (b100 .args .elims-blocks .now) (b100 .args .owners .now) (b100 .args .row-list .now) (b100 .args .row-starts .now) (b100 .args .visible .now) (b100 .args .visible-starts .now) (b100 .args .kept-starts .now) (b100 .args .kept-lo .now) (b100 .args .kept-hi .now) (b100 .args .kept-local .now) (b100 .args .elims-starts .now) (b100 .args .elims-lo .now) (b100 .args .elims-hi .now) (b100 .args .elims-local .now)) _ _ (owners-is (columnsOf (b100 .args .nrows) (b100 .args .ptrs .now) (b100 .args .rows .now) (b100 .args .values .now)) (b100 .args .kept .now) (b100 .args .elims .now) (b100 .args .chunk-len) (buffers (b100 .args .map .now) (b100 .args .kept-cols .now) (b100 .args .elims-cols .now) (b100 .args .elims-blocks .now) (b100 .args .owners .now) (b100 .args .row-list .now) (b100 .args .row-starts .now) (b100 .args .visible .now) (b100 .args .visible-starts .now) (b100 .args .kept-starts .now) (b100 .args .kept-lo .now) (b100 .args .kept-hi .now) (b100 .args .kept-local .now) (b100 .args .elims-starts .now) (b100 .args .elims-lo .now) (b100 .args .elims-hi .now) (b100 .args .elims-local .now)) (parts-fact (b77 .check-chunk .result) (b76 .check-parts .result) (columnsOf (b100 .args .nrows) (b100 .args .ptrs .now) (b100 .args .rows .now) (b100 .args .values .now)) (b100 .args .kept .now) (b100 .args .elims .now) (b100 .args .chunk-len) (b77 .check-chunk .ensures) (b76 .check-parts .ensures) (b74 .enum-told .given .1)) (room-fact (b70 .no-room .result) (columnsOf (b100 .args .nrows) (b100 .args .ptrs .now) (b100 .args .rows .now) (b100 .args .values .now)) (b100 .args .kept .now) (b100 .args .elims .now) (b100 .args .chunk-len) (buffers (b100 .args .map .now) (b100 .args .kept-cols .now) (b100 .args .elims-cols .now) (b100 .args .elims-blocks .now) (b100 .args .owners .now) (b100 .args .row-list .now) (b100 .args .row-starts .now) (b100 .args .visible .now) (b100 .args .visible-starts .now) (b100 .args .kept-starts .now) (b100 .args .kept-lo .now) (b100 .args .kept-hi .now) (b100 .args .kept-local .now) (b100 .args .elims-starts .now) (b100 .args .elims-lo .now) (b100 .args .elims-hi .now) (b100 .args .elims-local .now)) _ _ (b73 .column-count .ensures) (b72 .chunk-count .ensures) (b70 .no-room .ensures) (b68 .enum-told2 .given .1)) _ (walk-fact (b66 .walk-blocks .result) (b100 .args .kept .now) (b100 .args .elims .now) _ _ _ _ (b73 .column-count .ensures) (b66 .walk-blocks .ensures) (b62 .enum-told3 .given .1)) _ _ (rw (b56 .enum-told4 .given .1) at (b60 .row-owners .ensures)) refl) (b40 .row-lists .ensures)) (visible-listed (columnsOf (b100 .args .nrows) (b100 .args .ptrs .now) (b100 .args .rows .now) (b100 .args .values .now)) (b100 .args .kept .now) (b100 .args .elims .now) (b100 .args .chunk-len) (buffers (b100 .args .map .now) (b100 .args .kept-cols .now) (b100 .args .elims-cols .now) (b100 .args .elims-blocks .now) (b100 .args .owners .now) (b100 .args .row-list .now) (b100 .args .row-starts .now) (b100 .args .visible .now) (b100 .args .visible-starts .now) (b100 .args .kept-starts .now) (b100 .args .kept-lo .now) (b100 .args .kept-hi .now) (b100 .args .kept-local .now) (b100 .args .elims-starts .now) (b100 .args .elims-lo .now) (b100 .args .elims-hi .now) (b100 .args .elims-local .now)) (plan-ready (columnsOf (b100 .args .nrows) (b100 .args .ptrs .now) (b100 .args .rows .now) (b100 .args .values .now)) (b100 .args .kept .now) (b100 .args .elims .now) (b100 .args .chunk-len) (parts-fact (b77 .check-chunk .result) (b76 .check-parts .result) (columnsOf (b100 .args .nrows) (b100 .args .ptrs .now) (b100 .args .rows .now) (b100 .args .values .now)) (b100 .args .kept .now) (b100 .args .elims .now) (b100 .args .chunk-len) (b77 .check-chunk .ensures) (b76 .check-parts .ensures) (b74 .enum-told .given .1)) (buffers (b100 .args .map .now) (b100 .args .kept-cols .now) (b100 .args .elims-cols .now) (b100 .args .elims-blocks .now) (b100 .args .owners .now) (b100 .args .row-list .now) (b100 .args .row-starts .now) (b100 .args .visible .now) (b100 .args .visible-starts .now) (b100 .args .kept-starts .now) (b100 .args .kept-lo .now) (b100 .args .kept-hi .now) (b100 .args .kept-local .now) (b100 .args .elims-starts .now) (b100 .args .elims-lo .now) (b100 .args .elims-hi .now) (b100 .args .elims-local .now)) (room-fact (b70 .no-room .result) (columnsOf (b100 .args .nrows) (b100 .args .ptrs .now) (b100 .args .rows .now) (b100 .args .values .now)) (b100 .args .kept .now) (b100 .args .elims .now) (b100 .args .chunk-len) (buffers (b100 .args .map .now) (b100 .args .kept-cols .now) (b100 .args .elims-cols .now) (b100 .args .elims-blocks .now) (b100 .args .owners .now) (b100 .args .row-list .now) (b100 .args .row-starts .now) (b100 .args .visible .now) (b100 .args .visible-starts .now) (b100 .args .kept-starts .now) (b100 .args .kept-lo .now) (b100 .args .kept-hi .now) (b100 .args .kept-local .now) (b100 .args .elims-starts .now) (b100 .args .elims-lo .now) (b100 .args .elims-hi .now) (b100 .args .elims-local .now)) _ _ (b73 .column-count .ensures) (b72 .chunk-count .ensures) (b70 .no-room .ensures) (b68 .enum-told2 .given .1)) _ (walk-fact (b66 .walk-blocks .result) (b100 .args .kept .now) (b100 .args .elims .now) _ _ _ _ (b73 .column-count .ensures) (b66 .walk-blocks .ensures) (b62 .enum-told3 .given .1))) _ _ (owners-is (columnsOf (b100 .args .nrows) (b100 .args .ptrs .now) (b100 .args .rows .now) (b100 .args .values .now)) (b100 .args .kept .now) (b100 .args .elims .now) (b100 .args .chunk-len) (buffers (b100 .args .map .now) (b100 .args .kept-cols .now) (b100 .args .elims-cols .now) (b100 .args .elims-blocks .now) (b100 .args .owners .now) (b100 .args .row-list .now) (b100 .args .row-starts .now) (b100 .args .visible .now) (b100 .args .visible-starts .now) (b100 .args .kept-starts .now) (b100 .args .kept-lo .now) (b100 .args .kept-hi .now) (b100 .args .kept-local .now) (b100 .args .elims-starts .now) (b100 .args .elims-lo .now) (b100 .args .elims-hi .now) (b100 .args .elims-local .now)) (parts-fact (b77 .check-chunk .result) (b76 .check-parts .result) (columnsOf (b100 .args .nrows) (b100 .args .ptrs .now) (b100 .args .rows .now) (b100 .args .values .now)) (b100 .args .kept .now) (b100 .args .elims .now) (b100 .args .chunk-len) (b77 .check-chunk .ensures) (b76 .check-parts .ensures) (b74 .enum-told .given .1)) (room-fact (b70 .no-room .result) (columnsOf (b100 .args .nrows) (b100 .args .ptrs .now) (b100 .args .rows .now) (b100 .args .values .now)) (b100 .args .kept .now) (b100 .args .elims .now) (b100 .args .chunk-len) (buffers (b100 .args .map .now) (b100 .args .kept-cols .now) (b100 .args .elims-cols .now) (b100 .args .elims-blocks .now) (b100 .args .owners .now) (b100 .args .row-list .now) (b100 .args .row-starts .now) (b100 .args .visible .now) (b100 .args .visible-starts .now) (b100 .args .kept-starts .now) (b100 .args .kept-lo .now) (b100 .args .kept-hi .now) (b100 .args .kept-local .now) (b100 .args .elims-starts .now) (b100 .args .elims-lo .now) (b100 .args .elims-hi .now) (b100 .args .elims-local .now)) _ _ (b73 .column-count .ensures) (b72 .chunk-count .ensures) (b70 .no-room .ensures) (b68 .enum-told2 .given .1)) _ (walk-fact (b66 .walk-blocks .result) (b100 .args .kept .now) (b100 .args .elims .now) _ _ _ _ (b73 .column-count .ensures) (b66 .walk-blocks .ensures) (b62 .enum-told3 .given .1)) _ _ (rw (b56 .enum-told4 .given .1) at (b60 .row-owners .ensures)) refl) (b32 .visible-lists .ensures)) (span-lists (columnsOf (b100 .args .nrows) (b100 .args .ptrs .now) (b100 .args .rows .now) (b100 .args .values .now)) (b100 .args .kept .now) (b100 .args .elims .now) (b100 .args .chunk-len) (buffers (b100 .args .map .now) (b100 .args .kept-cols .now) (b100 .args .elims-cols .now) (b100 .args .elims-blocks .now) (b100 .args .owners .now) (b100 .args .row-list .now) (b100 .args .row-starts .now) (b100 .args .visible .now) (b100 .args .visible-starts .now) (b100 .args .kept-starts .now) (b100 .args .kept-lo .now) (b100 .args .kept-hi .now) (b100 .args .kept-local .now) (b100 .args .elims-starts .now) (b100 .args .elims-lo .now) (b100 .args .elims-hi .now) (b100 .args .elims-local .now)) (b100 .args .kept .now) _ _ _ _ _ _ (b54 .list-columns .ensures) (b22 .spans .ensures)) (span-lists (columnsOf (b100 .args .nrows) (b100 .args .ptrs .now) (b100 .args .rows .now) (b100 .args .values .now)) (b100 .args .kept .now) (b100 .args .elims .now) (b100 .args .chunk-len) (buffers (b100 .args .map .now) (b100 .args .kept-cols .now) (b100 .args .elims-cols .now) (b100 .args .elims-blocks .now) (b100 .args .owners .now) (b100 .args .row-list .now) (b100 .args .row-starts .now) (b100 .args .visible .now) (b100 .args .visible-starts .now) (b100 .args .kept-starts .now) (b100 .args .kept-lo .now) (b100 .args .kept-hi .now) (b100 .args .kept-local .now) (b100 .args .elims-starts .now) (b100 .args .elims-lo .now) (b100 .args .elims-hi .now) (b100 .args .elims-local .now)) (b100 .args .elims .now) _ _ _ _ _ _ (b50 .list-columns2 .ensures) (b8 .spans2 .ensures)))
+    plan-all (columnsOf (b100 .args .nrows) (b100 .args .ptrs .now) (b100 .args .rows .now) (b100 .args .values .now)) (b100 .args .kept .now) (b100 .args .elims .now) (b100 .args .chunk-len) (buffers (b100 .args .map .now) (b100 .args .kept-cols .now) (b100 .args .elims-cols .now) (b100 .args .elims-blocks .now) (b100 .args .owners .now) (b100 .args .row-list .now) (b100 .args .row-starts .now) (b100 .args .visible .now) (b100 .args .visible-starts .now) (b100 .args .kept-starts .now) (b100 .args .kept-lo .now) (b100 .args .kept-hi .now) (b100 .args .kept-local .now) (b100 .args .elims-starts .now) (b100 .args .elims-lo .now) (b100 .args .elims-hi .now) (b100 .args .elims-local .now)) (parts-fact (b77 .check-chunk .result) (b76 .check-parts .result) (columnsOf (b100 .args .nrows) (b100 .args .ptrs .now) (b100 .args .rows .now) (b100 .args .values .now)) (b100 .args .kept .now) (b100 .args .elims .now) (b100 .args .chunk-len) (b77 .check-chunk .ensures) (b76 .check-parts .ensures) (b74 .enum-told .given .1)) (room-fact (b70 .no-room .result) (columnsOf (b100 .args .nrows) (b100 .args .ptrs .now) (b100 .args .rows .now) (b100 .args .values .now)) (b100 .args .kept .now) (b100 .args .elims .now) (b100 .args .chunk-len) (buffers (b100 .args .map .now) (b100 .args .kept-cols .now) (b100 .args .elims-cols .now) (b100 .args .elims-blocks .now) (b100 .args .owners .now) (b100 .args .row-list .now) (b100 .args .row-starts .now) (b100 .args .visible .now) (b100 .args .visible-starts .now) (b100 .args .kept-starts .now) (b100 .args .kept-lo .now) (b100 .args .kept-hi .now) (b100 .args .kept-local .now) (b100 .args .elims-starts .now) (b100 .args .elims-lo .now) (b100 .args .elims-hi .now) (b100 .args .elims-local .now)) _ _ (b73 .column-count .ensures) (b72 .chunk-count .ensures) (b70 .no-room .ensures) (b68 .enum-told2 .given .1)) _ (walk-fact (b66 .walk-blocks .result) (b100 .args .kept .now) (b100 .args .elims .now) _ _ _ _ (b73 .column-count .ensures) (b66 .walk-blocks .ensures) (b62 .enum-told3 .given .1)) _ _ (rw (b56 .enum-told4 .given .1) at (b60 .row-owners .ensures)) refl _ _ _ (span-count (columnsOf (b100 .args .nrows) (b100 .args .ptrs .now) (b100 .args .rows .now) (b100 .args .values .now)) (b100 .args .kept .now) (b100 .args .elims .now) (b100 .args .chunk-len) (buffers (b100 .args .map .now) (b100 .args .kept-cols .now) (b100 .args .elims-cols .now) (b100 .args .elims-blocks .now) (b100 .args .owners .now) (b100 .args .row-list .now) (b100 .args .row-starts .now) (b100 .args .visible .now) (b100 .args .visible-starts .now) (b100 .args .kept-starts .now) (b100 .args .kept-lo .now) (b100 .args .kept-hi .now) (b100 .args .kept-local .now) (b100 .args .elims-starts .now) (b100 .args .elims-lo .now) (b100 .args .elims-hi .now) (b100 .args .elims-local .now)) (b100 .args .kept .now) _ _ _ _ _ _ (b54 .list-columns .ensures) (b22 .spans .ensures)) (span-count (columnsOf (b100 .args .nrows) (b100 .args .ptrs .now) (b100 .args .rows .now) (b100 .args .values .now)) (b100 .args .kept .now) (b100 .args .elims .now) (b100 .args .chunk-len) (buffers (b100 .args .map .now) (b100 .args .kept-cols .now) (b100 .args .elims-cols .now) (b100 .args .elims-blocks .now) (b100 .args .owners .now) (b100 .args .row-list .now) (b100 .args .row-starts .now) (b100 .args .visible .now) (b100 .args .visible-starts .now) (b100 .args .kept-starts .now) (b100 .args .kept-lo .now) (b100 .args .kept-hi .now) (b100 .args .kept-local .now) (b100 .args .elims-starts .now) (b100 .args .elims-lo .now) (b100 .args .elims-hi .now) (b100 .args .elims-local .now)) (b100 .args .elims .now) _ _ _ _ _ _ (b50 .list-columns2 .ensures) (b8 .spans2 .ensures)) (plan-of (columnsOf (b100 .args .nrows) (b100 .args .ptrs .now) (b100 .args .rows .now) (b100 .args .values .now)) (b100 .args .kept .now) (b100 .args .elims .now) (b100 .args .chunk-len) (buffers (b100 .args .map .now) (b100 .args .kept-cols .now) (b100 .args .elims-cols .now) (b100 .args .elims-blocks .now) (b100 .args .owners .now) (b100 .args .row-list .now) (b100 .args .row-starts .now) (b100 .args .visible .now) (b100 .args .visible-starts .now) (b100 .args .kept-starts .now) (b100 .args .kept-lo .now) (b100 .args .kept-hi .now) (b100 .args .kept-local .now) (b100 .args .elims-starts .now) (b100 .args .elims-lo .now) (b100 .args .elims-hi .now) (b100 .args .elims-local .now)) _ (mapped-is (columnsOf (b100 .args .nrows) (b100 .args .ptrs .now) (b100 .args .rows .now) (b100 .args .values .now)) (b100 .args .kept .now) (b100 .args .elims .now) (b100 .args .chunk-len) (buffers (b100 .args .map .now) (b100 .args .kept-cols .now) (b100 .args .elims-cols .now) (b100 .args .elims-blocks .now) (b100 .args .owners .now) (b100 .args .row-list .now) (b100 .args .row-starts .now) (b100 .args .visible .now) (b100 .args .visible-starts .now) (b100 .args .kept-starts .now) (b100 .args .kept-lo .now) (b100 .args .kept-hi .now) (b100 .args .kept-local .now) (b100 .args .elims-starts .now) (b100 .args .elims-lo .now) (b100 .args .elims-hi .now) (b100 .args .elims-local .now)) (parts-fact (b77 .check-chunk .result) (b76 .check-parts .result) (columnsOf (b100 .args .nrows) (b100 .args .ptrs .now) (b100 .args .rows .now) (b100 .args .values .now)) (b100 .args .kept .now) (b100 .args .elims .now) (b100 .args .chunk-len) (b77 .check-chunk .ensures) (b76 .check-parts .ensures) (b74 .enum-told .given .1)) (room-fact (b70 .no-room .result) (columnsOf (b100 .args .nrows) (b100 .args .ptrs .now) (b100 .args .rows .now) (b100 .args .values .now)) (b100 .args .kept .now) (b100 .args .elims .now) (b100 .args .chunk-len) (buffers (b100 .args .map .now) (b100 .args .kept-cols .now) (b100 .args .elims-cols .now) (b100 .args .elims-blocks .now) (b100 .args .owners .now) (b100 .args .row-list .now) (b100 .args .row-starts .now) (b100 .args .visible .now) (b100 .args .visible-starts .now) (b100 .args .kept-starts .now) (b100 .args .kept-lo .now) (b100 .args .kept-hi .now) (b100 .args .kept-local .now) (b100 .args .elims-starts .now) (b100 .args .elims-lo .now) (b100 .args .elims-hi .now) (b100 .args .elims-local .now)) _ _ (b73 .column-count .ensures) (b72 .chunk-count .ensures) (b70 .no-room .ensures) (b68 .enum-told2 .given .1)) _ (walk-fact (b66 .walk-blocks .result) (b100 .args .kept .now) (b100 .args .elims .now) _ _ _ _ (b73 .column-count .ensures) (b66 .walk-blocks .ensures) (b62 .enum-told3 .given .1))) (listed-list (columnsOf (b100 .args .nrows) (b100 .args .ptrs .now) (b100 .args .rows .now) (b100 .args .values .now)) (b100 .args .kept .now) (b100 .args .elims .now) (b100 .args .chunk-len) (buffers (b100 .args .map .now) (b100 .args .kept-cols .now) (b100 .args .elims-cols .now) (b100 .args .elims-blocks .now) (b100 .args .owners .now) (b100 .args .row-list .now) (b100 .args .row-starts .now) (b100 .args .visible .now) (b100 .args .visible-starts .now) (b100 .args .kept-starts .now) (b100 .args .kept-lo .now) (b100 .args .kept-hi .now) (b100 .args .kept-local .now) (b100 .args .elims-starts .now) (b100 .args .elims-lo .now) (b100 .args .elims-hi .now) (b100 .args .elims-local .now)) (b100 .args .kept .now) _ _ _ (b54 .list-columns .ensures)) (listed-list (columnsOf (b100 .args .nrows) (b100 .args .ptrs .now) (b100 .args .rows .now) (b100 .args .values .now)) (b100 .args .kept .now) (b100 .args .elims .now) (b100 .args .chunk-len) (buffers (b100 .args .map .now) (b100 .args .kept-cols .now) (b100 .args .elims-cols .now) (b100 .args .elims-blocks .now) (b100 .args .owners .now) (b100 .args .row-list .now) (b100 .args .row-starts .now) (b100 .args .visible .now) (b100 .args .visible-starts .now) (b100 .args .kept-starts .now) (b100 .args .kept-lo .now) (b100 .args .kept-hi .now) (b100 .args .kept-local .now) (b100 .args .elims-starts .now) (b100 .args .elims-lo .now) (b100 .args .elims-hi .now) (b100 .args .elims-local .now)) (b100 .args .elims .now) _ _ _ (b50 .list-columns2 .ensures)) (numbered-list (columnsOf (b100 .args .nrows) (b100 .args .ptrs .now) (b100 .args .rows .now) (b100 .args .values .now)) (b100 .args .kept .now) (b100 .args .elims .now) (b100 .args .chunk-len) (buffers (b100 .args .map .now) (b100 .args .kept-cols .now) (b100 .args .elims-cols .now) (b100 .args .elims-blocks .now) (b100 .args .owners .now) (b100 .args .row-list .now) (b100 .args .row-starts .now) (b100 .args .visible .now) (b100 .args .visible-starts .now) (b100 .args .kept-starts .now) (b100 .args .kept-lo .now) (b100 .args .kept-hi .now) (b100 .args .kept-local .now) (b100 .args .elims-starts .now) (b100 .args .elims-lo .now) (b100 .args .elims-hi .now) (b100 .args .elims-local .now)) (b100 .args .elims .now) _ _ _ (b46 .list-blocks .ensures)) (owners-is (columnsOf (b100 .args .nrows) (b100 .args .ptrs .now) (b100 .args .rows .now) (b100 .args .values .now)) (b100 .args .kept .now) (b100 .args .elims .now) (b100 .args .chunk-len) (buffers (b100 .args .map .now) (b100 .args .kept-cols .now) (b100 .args .elims-cols .now) (b100 .args .elims-blocks .now) (b100 .args .owners .now) (b100 .args .row-list .now) (b100 .args .row-starts .now) (b100 .args .visible .now) (b100 .args .visible-starts .now) (b100 .args .kept-starts .now) (b100 .args .kept-lo .now) (b100 .args .kept-hi .now) (b100 .args .kept-local .now) (b100 .args .elims-starts .now) (b100 .args .elims-lo .now) (b100 .args .elims-hi .now) (b100 .args .elims-local .now)) (parts-fact (b77 .check-chunk .result) (b76 .check-parts .result) (columnsOf (b100 .args .nrows) (b100 .args .ptrs .now) (b100 .args .rows .now) (b100 .args .values .now)) (b100 .args .kept .now) (b100 .args .elims .now) (b100 .args .chunk-len) (b77 .check-chunk .ensures) (b76 .check-parts .ensures) (b74 .enum-told .given .1)) (room-fact (b70 .no-room .result) (columnsOf (b100 .args .nrows) (b100 .args .ptrs .now) (b100 .args .rows .now) (b100 .args .values .now)) (b100 .args .kept .now) (b100 .args .elims .now) (b100 .args .chunk-len) (buffers (b100 .args .map .now) (b100 .args .kept-cols .now) (b100 .args .elims-cols .now) (b100 .args .elims-blocks .now) (b100 .args .owners .now) (b100 .args .row-list .now) (b100 .args .row-starts .now) (b100 .args .visible .now) (b100 .args .visible-starts .now) (b100 .args .kept-starts .now) (b100 .args .kept-lo .now) (b100 .args .kept-hi .now) (b100 .args .kept-local .now) (b100 .args .elims-starts .now) (b100 .args .elims-lo .now) (b100 .args .elims-hi .now) (b100 .args .elims-local .now)) _ _ (b73 .column-count .ensures) (b72 .chunk-count .ensures) (b70 .no-room .ensures) (b68 .enum-told2 .given .1)) _ (walk-fact (b66 .walk-blocks .result) (b100 .args .kept .now) (b100 .args .elims .now) _ _ _ _ (b73 .column-count .ensures) (b66 .walk-blocks .ensures) (b62 .enum-told3 .given .1)) _ _ (rw (b56 .enum-told4 .given .1) at (b60 .row-owners .ensures)) refl) (rows-listed (columnsOf (b100 .args .nrows) (b100 .args .ptrs .now) (b100 .args .rows .now) (b100 .args .values .now)) (b100 .args .kept .now) (b100 .args .elims .now) (b100 .args .chunk-len) (buffers (b100 .args .map .now) (b100 .args .kept-cols .now) (b100 .args .elims-cols .now) (b100 .args .elims-blocks .now) (b100 .args .owners .now) (b100 .args .row-list .now) (b100 .args .row-starts .now) (b100 .args .visible .now) (b100 .args .visible-starts .now) (b100 .args .kept-starts .now) (b100 .args .kept-lo .now) (b100 .args .kept-hi .now) (b100 .args .kept-local .now) (b100 .args .elims-starts .now) (b100 .args .elims-lo .now) (b100 .args .elims-hi .now) (b100 .args .elims-local .now)) _ _ (owners-is (columnsOf (b100 .args .nrows) (b100 .args .ptrs .now) (b100 .args .rows .now) (b100 .args .values .now)) (b100 .args .kept .now) (b100 .args .elims .now) (b100 .args .chunk-len) (buffers (b100 .args .map .now) (b100 .args .kept-cols .now) (b100 .args .elims-cols .now) (b100 .args .elims-blocks .now) (b100 .args .owners .now) (b100 .args .row-list .now) (b100 .args .row-starts .now) (b100 .args .visible .now) (b100 .args .visible-starts .now) (b100 .args .kept-starts .now) (b100 .args .kept-lo .now) (b100 .args .kept-hi .now) (b100 .args .kept-local .now) (b100 .args .elims-starts .now) (b100 .args .elims-lo .now) (b100 .args .elims-hi .now) (b100 .args .elims-local .now)) (parts-fact (b77 .check-chunk .result) (b76 .check-parts .result) (columnsOf (b100 .args .nrows) (b100 .args .ptrs .now) (b100 .args .rows .now) (b100 .args .values .now)) (b100 .args .kept .now) (b100 .args .elims .now) (b100 .args .chunk-len) (b77 .check-chunk .ensures) (b76 .check-parts .ensures) (b74 .enum-told .given .1)) (room-fact (b70 .no-room .result) (columnsOf (b100 .args .nrows) (b100 .args .ptrs .now) (b100 .args .rows .now) (b100 .args .values .now)) (b100 .args .kept .now) (b100 .args .elims .now) (b100 .args .chunk-len) (buffers (b100 .args .map .now) (b100 .args .kept-cols .now) (b100 .args .elims-cols .now) (b100 .args .elims-blocks .now) (b100 .args .owners .now) (b100 .args .row-list .now) (b100 .args .row-starts .now) (b100 .args .visible .now) (b100 .args .visible-starts .now) (b100 .args .kept-starts .now) (b100 .args .kept-lo .now) (b100 .args .kept-hi .now) (b100 .args .kept-local .now) (b100 .args .elims-starts .now) (b100 .args .elims-lo .now) (b100 .args .elims-hi .now) (b100 .args .elims-local .now)) _ _ (b73 .column-count .ensures) (b72 .chunk-count .ensures) (b70 .no-room .ensures) (b68 .enum-told2 .given .1)) _ (walk-fact (b66 .walk-blocks .result) (b100 .args .kept .now) (b100 .args .elims .now) _ _ _ _ (b73 .column-count .ensures) (b66 .walk-blocks .ensures) (b62 .enum-told3 .given .1)) _ _ (rw (b56 .enum-told4 .given .1) at (b60 .row-owners .ensures)) refl) (b40 .row-lists .ensures)) (visible-left (columnsOf (b100 .args .nrows) (b100 .args .ptrs .now) (b100 .args .rows .now) (b100 .args .values .now)) (b100 .args .kept .now) (b100 .args .elims .now) (b100 .args .chunk-len) (buffers (b100 .args .map .now) (b100 .args .kept-cols .now) (b100 .args .elims-cols .now) (b100 .args .elims-blocks .now) (b100 .args .owners .now) (b100 .args .row-list .now) (b100 .args .row-starts .now) (b100 .args .visible .now) (b100 .args .visible-starts .now) (b100 .args .kept-starts .now) (b100 .args .kept-lo .now) (b100 .args .kept-hi .now) (b100 .args .kept-local .now) (b100 .args .elims-starts .now) (b100 .args .elims-lo .now) (b100 .args .elims-hi .now) (b100 .args .elims-local .now)) (plan-ready (columnsOf (b100 .args .nrows) (b100 .args .ptrs .now) (b100 .args .rows .now) (b100 .args .values .now)) (b100 .args .kept .now) (b100 .args .elims .now) (b100 .args .chunk-len) (parts-fact (b77 .check-chunk .result) (b76 .check-parts .result) (columnsOf (b100 .args .nrows) (b100 .args .ptrs .now) (b100 .args .rows .now) (b100 .args .values .now)) (b100 .args .kept .now) (b100 .args .elims .now) (b100 .args .chunk-len) (b77 .check-chunk .ensures) (b76 .check-parts .ensures) (b74 .enum-told .given .1)) (buffers (b100 .args .map .now) (b100 .args .kept-cols .now) (b100 .args .elims-cols .now) (b100 .args .elims-blocks .now) (b100 .args .owners .now) (b100 .args .row-list .now) (b100 .args .row-starts .now) (b100 .args .visible .now) (b100 .args .visible-starts .now) (b100 .args .kept-starts .now) (b100 .args .kept-lo .now) (b100 .args .kept-hi .now) (b100 .args .kept-local .now) (b100 .args .elims-starts .now) (b100 .args .elims-lo .now) (b100 .args .elims-hi .now) (b100 .args .elims-local .now)) (room-fact (b70 .no-room .result) (columnsOf (b100 .args .nrows) (b100 .args .ptrs .now) (b100 .args .rows .now) (b100 .args .values .now)) (b100 .args .kept .now) (b100 .args .elims .now) (b100 .args .chunk-len) (buffers (b100 .args .map .now) (b100 .args .kept-cols .now) (b100 .args .elims-cols .now) (b100 .args .elims-blocks .now) (b100 .args .owners .now) (b100 .args .row-list .now) (b100 .args .row-starts .now) (b100 .args .visible .now) (b100 .args .visible-starts .now) (b100 .args .kept-starts .now) (b100 .args .kept-lo .now) (b100 .args .kept-hi .now) (b100 .args .kept-local .now) (b100 .args .elims-starts .now) (b100 .args .elims-lo .now) (b100 .args .elims-hi .now) (b100 .args .elims-local .now)) _ _ (b73 .column-count .ensures) (b72 .chunk-count .ensures) (b70 .no-room .ensures) (b68 .enum-told2 .given .1)) _ (walk-fact (b66 .walk-blocks .result) (b100 .args .kept .now) (b100 .args .elims .now) _ _ _ _ (b73 .column-count .ensures) (b66 .walk-blocks .ensures) (b62 .enum-told3 .given .1))) _ _ (owners-is (columnsOf (b100 .args .nrows) (b100 .args .ptrs .now) (b100 .args .rows .now) (b100 .args .values .now)) (b100 .args .kept .now) (b100 .args .elims .now) (b100 .args .chunk-len) (buffers (b100 .args .map .now) (b100 .args .kept-cols .now) (b100 .args .elims-cols .now) (b100 .args .elims-blocks .now) (b100 .args .owners .now) (b100 .args .row-list .now) (b100 .args .row-starts .now) (b100 .args .visible .now) (b100 .args .visible-starts .now) (b100 .args .kept-starts .now) (b100 .args .kept-lo .now) (b100 .args .kept-hi .now) (b100 .args .kept-local .now) (b100 .args .elims-starts .now) (b100 .args .elims-lo .now) (b100 .args .elims-hi .now) (b100 .args .elims-local .now)) (parts-fact (b77 .check-chunk .result) (b76 .check-parts .result) (columnsOf (b100 .args .nrows) (b100 .args .ptrs .now) (b100 .args .rows .now) (b100 .args .values .now)) (b100 .args .kept .now) (b100 .args .elims .now) (b100 .args .chunk-len) (b77 .check-chunk .ensures) (b76 .check-parts .ensures) (b74 .enum-told .given .1)) (room-fact (b70 .no-room .result) (columnsOf (b100 .args .nrows) (b100 .args .ptrs .now) (b100 .args .rows .now) (b100 .args .values .now)) (b100 .args .kept .now) (b100 .args .elims .now) (b100 .args .chunk-len) (buffers (b100 .args .map .now) (b100 .args .kept-cols .now) (b100 .args .elims-cols .now) (b100 .args .elims-blocks .now) (b100 .args .owners .now) (b100 .args .row-list .now) (b100 .args .row-starts .now) (b100 .args .visible .now) (b100 .args .visible-starts .now) (b100 .args .kept-starts .now) (b100 .args .kept-lo .now) (b100 .args .kept-hi .now) (b100 .args .kept-local .now) (b100 .args .elims-starts .now) (b100 .args .elims-lo .now) (b100 .args .elims-hi .now) (b100 .args .elims-local .now)) _ _ (b73 .column-count .ensures) (b72 .chunk-count .ensures) (b70 .no-room .ensures) (b68 .enum-told2 .given .1)) _ (walk-fact (b66 .walk-blocks .result) (b100 .args .kept .now) (b100 .args .elims .now) _ _ _ _ (b73 .column-count .ensures) (b66 .walk-blocks .ensures) (b62 .enum-told3 .given .1)) _ _ (rw (b56 .enum-told4 .given .1) at (b60 .row-owners .ensures)) refl) (b32 .visible-lists .ensures)) (span-lists (columnsOf (b100 .args .nrows) (b100 .args .ptrs .now) (b100 .args .rows .now) (b100 .args .values .now)) (b100 .args .kept .now) (b100 .args .elims .now) (b100 .args .chunk-len) (buffers (b100 .args .map .now) (b100 .args .kept-cols .now) (b100 .args .elims-cols .now) (b100 .args .elims-blocks .now) (b100 .args .owners .now) (b100 .args .row-list .now) (b100 .args .row-starts .now) (b100 .args .visible .now) (b100 .args .visible-starts .now) (b100 .args .kept-starts .now) (b100 .args .kept-lo .now) (b100 .args .kept-hi .now) (b100 .args .kept-local .now) (b100 .args .elims-starts .now) (b100 .args .elims-lo .now) (b100 .args .elims-hi .now) (b100 .args .elims-local .now)) (b100 .args .kept .now) _ _ _ _ _ _ (b54 .list-columns .ensures) (b22 .spans .ensures)) (span-lists (columnsOf (b100 .args .nrows) (b100 .args .ptrs .now) (b100 .args .rows .now) (b100 .args .values .now)) (b100 .args .kept .now) (b100 .args .elims .now) (b100 .args .chunk-len) (buffers (b100 .args .map .now) (b100 .args .kept-cols .now) (b100 .args .elims-cols .now) (b100 .args .elims-blocks .now) (b100 .args .owners .now) (b100 .args .row-list .now) (b100 .args .row-starts .now) (b100 .args .visible .now) (b100 .args .visible-starts .now) (b100 .args .kept-starts .now) (b100 .args .kept-lo .now) (b100 .args .kept-hi .now) (b100 .args .kept-local .now) (b100 .args .elims-starts .now) (b100 .args .elims-lo .now) (b100 .args .elims-hi .now) (b100 .args .elims-local .now)) (b100 .args .elims .now) _ _ _ _ _ _ (b50 .list-columns2 .ensures) (b8 .spans2 .ensures)))
 
 pub plan-spec : {M : Type 1} → statement M
 plan-spec = tie.close (tie.spec check-chunk-requires check-parts-requires enum-known-parts returns enum-told column-count-requires chunk-count-requires add-t48 add-t53 add-t55 add-t60 slice-aggregate-no-room no-room-requires enum-known-r returns-2 enum-told-2 walk-blocks-requires enum-known-r-2 same-length returns-3 enum-told-3 row-owners-requires enum-known-r-3 mark-map-requires same-length-2 same-length-3 returns-4 enum-told-4 list-columns-requires list-columns-requires-2 list-blocks-requires row-lists-requires visible-lists-requires spans-requires spans-requires-2 same-length-4 same-length-5 same-length-6 same-length-7 same-length-8 same-length-9 same-length-10 same-length-11 same-length-12 same-length-13 same-length-14 same-length-15 same-length-16 same-length-17 same-length-18 same-length-19 same-length-20 returns-5)
