@@ -246,7 +246,7 @@ module _ (m : Columns) (kept elims : List ℕ) (len : ℕ) (b : Buffers) where
           plan-connected r map₂ s q =
               let c : planConnected m elims ≡ refused r = sym connected-is ∙ s in
               let o : owners′ ≡ marks (m .nrows) (b .owners) =
-                  ap (λ (w : Owned). w .owners) owned-is ∙ left-refused m elims (b .owners) (λ p. let z = number-some r in let y : number r ≡ 0 = rw c at p in eqb-false _ _ z y) in
+              ap (λ (w : Owned). w .owners) owned-is ∙ left-refused m elims (b .owners) (λ p. let z = number-some r in let y : number r ≡ 0 = rw c at p in eqb-false _ _ z y) in
               let d : drop n map′ ≡ drop n (b .map) = ap (drop n) mapped-is ∙ drop-at (listOf (placeOf cs) n) (drop n (b .map)) n (length-listOf (placeOf cs) 0 n) in
               let h : n ≤ length map′ = rw (mapped-is, length-append, length-listOf (placeOf cs) 0 n) (omega arith) in
               let w : map₂ ≡ marks n (b .map) = q ∙ marked-all n map′ h ∙ ap (λ (l : List ℕ). replicate n mark ++ l) d in

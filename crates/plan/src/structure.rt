@@ -75,23 +75,40 @@ pub fn plan(
     let entries = rows.len();
     let chunks = chunk_count(nrows, chunk_len);
     let room = [
-        map.len(), n,
-        kept_cols.len(), n,
-        elims_cols.len(), n,
-        elims_blocks.len(), n,
-        owners.len(), nrows,
-        row_list.len(), nrows,
-        row_starts.len(), elims.len() / 2 + 1,
-        visible.len(), entries,
-        visible_starts.len(), kept.len() / 2 + 1,
-        kept_starts.len(), chunks + 1,
-        kept_lo.len(), entries,
-        kept_hi.len(), entries,
-        kept_local.len(), entries,
-        elims_starts.len(), chunks + 1,
-        elims_lo.len(), entries,
-        elims_hi.len(), entries,
-        elims_local.len(), entries,
+        map.len(),
+        n,
+        kept_cols.len(),
+        n,
+        elims_cols.len(),
+        n,
+        elims_blocks.len(),
+        n,
+        owners.len(),
+        nrows,
+        row_list.len(),
+        nrows,
+        row_starts.len(),
+        elims.len() / 2 + 1,
+        visible.len(),
+        entries,
+        visible_starts.len(),
+        kept.len() / 2 + 1,
+        kept_starts.len(),
+        chunks + 1,
+        kept_lo.len(),
+        entries,
+        kept_hi.len(),
+        entries,
+        kept_local.len(),
+        entries,
+        elims_starts.len(),
+        chunks + 1,
+        elims_lo.len(),
+        entries,
+        elims_hi.len(),
+        entries,
+        elims_local.len(),
+        entries,
     ];
     if let Answer::Refused(r) = no_room(&room) {
         return Planned::Refused(r);
@@ -108,8 +125,30 @@ pub fn plan(
     list_blocks(elims, elims_blocks);
     row_lists(nrows, owners, elims.len() / 2, row_list, row_starts);
     visible_lists(ptrs, rows, kept, owners, visible, visible_starts);
-    let kept_spans = spans(nrows, ptrs, rows, kept_cols, kept_dof, chunk_len, kept_starts, kept_lo, kept_hi, kept_local);
-    let eliminated_spans = spans(nrows, ptrs, rows, elims_cols, elims_dof, chunk_len, elims_starts, elims_lo, elims_hi, elims_local);
+    let kept_spans = spans(
+        nrows,
+        ptrs,
+        rows,
+        kept_cols,
+        kept_dof,
+        chunk_len,
+        kept_starts,
+        kept_lo,
+        kept_hi,
+        kept_local,
+    );
+    let eliminated_spans = spans(
+        nrows,
+        ptrs,
+        rows,
+        elims_cols,
+        elims_dof,
+        chunk_len,
+        elims_starts,
+        elims_lo,
+        elims_hi,
+        elims_local,
+    );
     Planned::Done {
         kept_spans: kept_spans,
         eliminated_spans: eliminated_spans,

@@ -1,0 +1,1 @@
+-- The laws of specs/, and what the code's steps show of them.

@@ -1,0 +1,3 @@
+pub mod SideSums
+pub mod Couplings
+pub mod Orders

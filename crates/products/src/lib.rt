@@ -1,0 +1,1 @@
+// Products over columns, blocks and a plan.
