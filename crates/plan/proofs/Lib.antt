@@ -21,4 +21,6 @@ pub mod VisibleLaws
 pub mod SpanLaws
 pub mod SideSpanLaws
 pub mod PlanCalls
+pub mod PlanLaws
+pub mod Determined
 pub mod Cases
