@@ -89,15 +89,15 @@ REFUSED = {
 }
 
 
-def show(name, rows, n, kept, elims, order, value, damping):
+def show(name, rows, n, kept, elims, order, value, damping, chunk=3):
     ptr, row, val = [0], [], []
     for c in range(n):
         entries = [(r, value(r, c)) for r in range(rows)]
         row += [r for r, v in entries if v is not None]
         val += [v for _, v in entries if v is not None]
         ptr.append(len(row))
-    print('case', 'blocks.' + name)
-    for key, numbers in (('rows', [rows]), ('cols', [n]), ('L', [3]), ('order', [order]), ('ptr', ptr), ('row', row),
+    print('case', name)
+    for key, numbers in (('rows', [rows]), ('cols', [n]), ('L', [chunk]), ('order', [order]), ('ptr', ptr), ('row', row),
                          ('kept', [x for b in kept for x in b]), ('elim', [x for b in elims for x in b]), ('pairs', [])):
         print(' '.join(map(str, ['in.' + key, 'u', len(numbers), *numbers])))
     # the vectors of the products, which blocks take no notice of, are all 1.0
@@ -116,10 +116,10 @@ def main():
             # the kinds of values go round the shapes: four for each
             name, value = list(VALUES.items())[k % len(VALUES)]
             rows = ROWS[k % 7 % len(ROWS)]
-            show(f'{shape}.{name}', rows, n, kept, elims, int(k % 4 > 0), value, DAMPINGS[k % len(DAMPINGS)])
+            show(f'blocks.{shape}.{name}', rows, n, kept, elims, int(k % 4 > 0), value, DAMPINGS[k % len(DAMPINGS)])
             k += 1
     for k, (name, (n, kept, elims)) in enumerate(REFUSED.items()):
-        show('refused.' + name, ROWS[k % len(ROWS)], n, kept, elims, 0, list(VALUES.values())[k % len(VALUES)], DAMPINGS[0])
+        show('blocks.refused.' + name, ROWS[k % len(ROWS)], n, kept, elims, 0, list(VALUES.values())[k % len(VALUES)], DAMPINGS[0])
 
 
 if __name__ == '__main__':

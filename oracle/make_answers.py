@@ -206,4 +206,5 @@ def main():
     print(f'flipped: case {at} ({NAMES[cases[at].kind]}, cases count from 0), lowest bit of answer {place}')
 
 
-main()
+if __name__ == '__main__':
+    main()
