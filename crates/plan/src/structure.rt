@@ -59,6 +59,7 @@ pub fn plan(
 ) -> Planned
     ensures { λ r. ⌜ record { told = toldPlan r; left = buffers (now (map .exit)) (now («kept_cols» .exit)) (now («elims_cols» .exit)) (now («elims_blocks» .exit)) (now (owners .exit)) (now («row_list» .exit)) (now («row_starts» .exit)) (now (visible .exit)) (now («visible_starts» .exit)) (now («kept_starts» .exit)) (now («kept_lo» .exit)) (now («kept_hi» .exit)) (now («kept_local» .exit)) (now («elims_starts» .exit)) (now («elims_lo» .exit)) (now («elims_hi» .exit)) (now («elims_local» .exit)) } ≡ planned (columnsOf nrows (now (ptrs .entry)) (now (rows .entry)) (now (values .entry))) (now (kept .entry)) (now (elims .entry)) «chunk_len» (buffers (now (map .entry)) (now («kept_cols» .entry)) (now («elims_cols» .entry)) (now («elims_blocks» .entry)) (now (owners .entry)) (now («row_list» .entry)) (now («row_starts» .entry)) (now (visible .entry)) (now («visible_starts» .entry)) (now («kept_starts» .entry)) (now («kept_lo» .entry)) (now («kept_hi» .entry)) (now («kept_local» .entry)) (now («elims_starts» .entry)) (now («elims_lo» .entry)) (now («elims_hi» .entry)) (now («elims_local» .entry))) ⌝ }
 {
+    // 1 to 5
     let parts = check_parts(
         nrows,
         ptrs,
@@ -71,6 +72,7 @@ pub fn plan(
     if let Answer::Refused(r) = parts {
         return Planned::Refused(r);
     }
+    // 6: each buffer's length and need, in the order of the room list
     let n = column_count(ptrs);
     let entries = rows.len();
     let chunks = chunk_count(nrows, chunk_len);
@@ -113,13 +115,16 @@ pub fn plan(
     if let Answer::Refused(r) = no_room(&room) {
         return Planned::Refused(r);
     }
+    // 7 to 9, and the column map
     if let Answer::Refused(r) = walk_blocks(kept, elims, n, map) {
         return Planned::Refused(r);
     }
+    // 10, and the owners
     if let Answer::Refused(r) = row_owners(nrows, ptrs, rows, elims, owners) {
         mark_map(map, n);
         return Planned::Refused(r);
     }
+    // nothing refuses from here on
     let kept_dof = list_columns(kept, kept_cols);
     let elims_dof = list_columns(elims, elims_cols);
     list_blocks(elims, elims_blocks);
