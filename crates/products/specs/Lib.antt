@@ -1,3 +1,4 @@
 pub mod SideSums
 pub mod Couplings
 pub mod Orders
+pub mod Operator
