@@ -6,12 +6,11 @@ use native.Mathlib.Nat.{le-trans}
 use native.Mathlib.Omega.{arith}
 use lib.ListN.{length, getD, set, drop, length-append}
 use Rattle.ground.specs.Gather.{gather, listOf}
-use Rattle.ground.specs.Range.{range}
 use Rattle.ground.proofs.Rules.{loops}
 use Rattle.ground.proofs.RangeLaws.{range-split, done}
 use Rattle.ground.proofs.GatherLaws.{gather-none, gather-last, length-listOf, getD-listOf}
 use Rattle.ground.proofs.ListLaws.{gather-at, written-front, list-back}
-use Rattle.blocks.specs.Sides.{blockCount, firstOf, dofOf, cols, offsetOf, sideDof, HasAt}
+use Rattle.blocks.specs.Sides.{blockCount, firstOf, dofOf, cols, offsetOf, sideDof}
 use Rattle.blocks.proofs.SideLaws.{cols-length, cols-at, offset-next}
 use Rattle.plan.specs.Plan.{columnBlocks}
 use Rattle.plan.specs.ColumnLists.{written, Counted, columnsListed, blocksListed, ColumnsFit, BlockFits}

@@ -1,45 +1,43 @@
 -- What a call of `plan` comes to, by how far it gets, and what gives the functions that it calls their `requires`: the checks that have passed.
 -- Assumes nothing.
 use mathlib.Core.Path.{_≡_, refl, sym, ap, _∙_}
-use mathlib.Core.Bool.{Bool, true, false, cond}
+use mathlib.Core.Bool.{Bool, true, false}
 use mathlib.Core.List.{List, [], _∷_, _++_}
-use Prim.Native.Nat.{ℕ, zero, suc, _+_, _-_, _/_, _≤_, _<_}
+use Prim.Native.Nat.{ℕ, _+_, _-_, _/_, _≤_, _<_}
 use native.Mathlib.Nat.{le-trans, div-le-self}
 use native.Mathlib.Omega.{arith}
-use lib.ListN.{length, getD, drop, replicate, length-append, length-drop, List·getD-append}
+use lib.ListN.{length, getD, drop, replicate, length-append, List·getD-append}
 use lib.Seq.{drop-at}
 use borrow.Author.Tests.{eqb-false}
 use Rattle.ground.specs.Gather.{listOf}
-use Rattle.ground.proofs.GatherLaws.{gather-same, length-listOf}
+use Rattle.ground.proofs.GatherLaws.{length-listOf}
 use Rattle.columns.specs.declared.refusal.Refusal.{Refusal}
 use Rattle.columns.specs.declared.refusal.Answer.{Answer}
 use Rattle.columns.specs.declared.refusal.Answer.the-variants.{Done, Refused}
-use Rattle.columns.specs.Refusals.{number, Told, tell, done, refused, told, Passes, onPass, orElse}
+use Rattle.columns.specs.Refusals.{number, Told, tell, done, refused, told, Passes, onPass}
 use Rattle.columns.specs.Lengths.{lengthOf, needOf, noRoom}
-use Rattle.columns.specs.Columns.{Columns, columnsOf, columnCount, entryCount, Keeps}
+use Rattle.columns.specs.Columns.{Columns, columnCount, entryCount, Keeps}
 use Rattle.columns.proofs.RefusalLaws.{number-some, pass-refused, pass-done}
-use Rattle.columns.proofs.CheckLaws.{passes-keeps, column-there, column-run}
+use Rattle.columns.proofs.CheckLaws.{passes-keeps}
 use Rattle.columns.proofs.CallLaws.{told-done, room-right}
 use Rattle.blocks.specs.Sides.{blockCount, cols, sideDof, sideOf}
 use Rattle.blocks.specs.Claims.{mark, marked, claims, placeOf, partsTold, Parted, Mapped}
 use Rattle.blocks.specs.Walk.{Roomy, walkBlocks}
 use Rattle.blocks.proofs.CallRules.{parts-passes}
 use Rattle.blocks.proofs.PartLaws.{sides-few, walk-parted, parted-dofs}
-use Rattle.blocks.proofs.MapLaws.{cols-in}
 use Rattle.blocks.proofs.SideLaws.{cols-length}
 use Rattle.blocks.proofs.WalkRules.{marked-all}
-use Rattle.plan.specs.Entries.{entriesIn}
-use Rattle.plan.specs.Owners.{Owned, sideEntries, connectedTold, ownerOf, ownerList, patternOf, ownersOf}
+use Rattle.plan.specs.Owners.{Owned, ownerOf, ownerList, patternOf, ownersOf}
 use Rattle.plan.specs.OwnerWalk.{OwnersIn}
 use Rattle.plan.specs.Lists.{Listed, rowsOf, rowsWith, visibleOf, listed}
 use Rattle.plan.specs.RowLists.{ListsFit}
 use Rattle.plan.specs.VisibleWalk.{visibleWith, VisibleFits}
-use Rattle.plan.specs.Spans.{chunkTold, chunkCount, placeIn, columnSpan, localSpans, chunkSpans, sideSpans, Spread, spread, Spanned, spanned}
-use Rattle.plan.specs.SpanWalk.{Chunked, ColumnRises, SpansFit}
-use Rattle.plan.specs.Plan.{Buffers, columnBlocks, roomList, room, planEarly, planBlocks, planConnected, planTold, planOf, marks, lent, planLeft, Outcome, planned}
+use Rattle.plan.specs.Spans.{chunkTold, chunkCount, chunkSpans, sideSpans, Spread, spread, Spanned, spanned}
+use Rattle.plan.specs.SpanWalk.{Chunked, SpansFit}
+use Rattle.plan.specs.Plan.{Buffers, columnBlocks, roomList, room, planEarly, planBlocks, planConnected, planTold, planOf, marks, lent, planLeft, planned}
 use Rattle.plan.specs.ColumnLists.{ColumnsFit, Counted, columnsListed, blocksListed}
 use Rattle.plan.proofs.ChunkLaws.{chunk-passes}
-use Rattle.plan.proofs.OwnerCalls.{parted-side, owners-in, owners-values, told-pass, left-pass, left-refused}
+use Rattle.plan.proofs.OwnerCalls.{parted-side, owners-in, owners-values, left-pass, left-refused}
 use Rattle.plan.proofs.RowLaws.{lists-fit, lists-of}
 use Rattle.plan.proofs.EntryLaws.{side-entries}
 use Rattle.plan.proofs.VisibleLaws.{visible-fits, visible-lists-of}

@@ -1,23 +1,23 @@
 -- Demand 3, first half: for columns and blocks that keep the rules, a chunk length from 1 to 1,048,576 and enough room, planning answers 10 exactly
 -- if some row has entries of two eliminated blocks, and 0 otherwise. With 0 the plan is that of specs/Plan.antt. Assumes nothing.
 use mathlib.Core.Path.{_≡_, refl, sym, ap, _∙_}
-use mathlib.Core.Bool.{Bool, true, false, _||_}
+use mathlib.Core.Bool.{Bool, true, false}
 use mathlib.Core.Logic.{_⊎_, inl, inr}
 use mathlib.Core.List.{List, [], _∷_}
 use Prim.Native.Nat.{ℕ, _/_, _≤_, _<_}
 use native.Mathlib.Omega.{arith}
-use lib.Dec.{eqb, ltb}
+use lib.Dec.{ltb}
 use lib.ListN.{length}
-use borrow.Author.Tests.{ne-eqb, le-ltb, eqb-true, eqb-false}
+use borrow.Author.Tests.{ne-eqb, le-ltb}
 use Rattle.columns.specs.Refusals.{Told, tell, done, Passes, onPass, orElse}
-use Rattle.columns.specs.Lengths.{lengthOf, needOf, noRoom}
+use Rattle.columns.specs.Lengths.{lengthOf, needOf}
 use Rattle.columns.specs.Columns.{Columns, columnCount, Keeps}
 use Rattle.columns.proofs.CallLaws.{room-done}
 use Rattle.blocks.specs.Claims.{Parted}
 use Rattle.blocks.proofs.PartLaws.{parted-parts, parted-late}
 use Rattle.plan.specs.Owners.{sideEntries, firstClash, connectedTold, Connects}
 use Rattle.plan.specs.Spans.{chunkTold, sideSpans}
-use Rattle.plan.specs.Plan.{Buffers, room, planEarly, planBlocks, planConnected, planTold, planOf, planLeft}
+use Rattle.plan.specs.Plan.{Buffers, room, planEarly, planConnected, planTold, planOf, planLeft}
 use Rattle.plan.proofs.ConnectedLaws.{told-connects, connects-told}
 use Rattle.plan.proofs.OwnerCalls.{told-pass}
 

@@ -9,7 +9,6 @@ use native.Mathlib.Decide.{decLt}
 use lib.ListN.{length, getD}
 use Rattle.ground.specs.Fold.{All}
 use Rattle.ground.proofs.GatherLaws.{gather-same}
-use Rattle.ground.proofs.ListLaws.{listOf-same}
 use Rattle.columns.specs.Columns.{Columns, columnCount, entryCount, Keeps}
 use Rattle.columns.proofs.CheckLaws.{column-run, column-there, columns-apart}
 use Rattle.blocks.specs.Sides.{sideOf, cols, sideDof}
@@ -17,7 +16,6 @@ use Rattle.blocks.specs.Claims.{Parted}
 use Rattle.blocks.proofs.PartLaws.{parted-dofs}
 use Rattle.blocks.proofs.MapLaws.{cols-once, cols-in}
 use Rattle.plan.specs.Owners.{patternOf}
-use Rattle.plan.specs.Lists.{flat}
 use Rattle.plan.specs.Entries.{entriesIn}
 use Rattle.plan.specs.Spans.{chunkCount, placeIn, columnSpan, localSpans, chunkSpans, sideSpans, Spread, spread, spanned, EntryIn, SpanIs, InOne}
 use Rattle.plan.specs.SpanWalk.{Chunked, ColumnRises, SpansFit}
