@@ -1,0 +1,7 @@
+-- The laws of specs/.
+pub mod ItemLaws
+pub mod TermLaws
+pub mod SpanTerms
+pub mod PlanTerms
+pub mod OrderLaws
+pub mod OrderTerms
