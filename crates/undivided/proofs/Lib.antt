@@ -5,3 +5,4 @@ pub mod SpanTerms
 pub mod PlanTerms
 pub mod OrderLaws
 pub mod OrderTerms
+pub mod PlanPasses

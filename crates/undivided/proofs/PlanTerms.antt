@@ -90,6 +90,32 @@ module _ (m : Columns) (side : List ℕ) (len : ℕ) (s : Spread) (g : Planned m
         ∙ gather-items (termsOf m v) nowhere (spanTerms m s v) (sideSpans m side len) 0 (λ i l. rw (zero-add i) (span-at i))
         ∙ each-gather (termsOf m v) (chunkSpans m side len) 0 chunks
 
+-- ---- a chunk's spans, as they stand in the lists
+
+-- the span that three lists have at place k
+abbrev pub spanOf : Spread → ℕ → Span
+spanOf s k = record { lo = getD (s .lo) k 0; hi = getD (s .hi) k 0; local = getD (s .local) k 0 }
+
+-- it is one of chunk c
+pub record Among (m : Columns) (side : List ℕ) (len : ℕ) (s : Spread) (c k : ℕ) : Type 0 where
+  pub is : SpanIs m (cols side) (sideDof side) len c (spanOf s k)
+
+pub among : (m : Columns) (side : List ℕ) (len : ℕ) → Chunked (m .nrows) len → ((l : ℕ) → l < sideDof side → ColumnRises (m .ptrs) (m .rows) (m .nrows) (getD (cols side) l 0))
+    → (s : Spread) → Planned m side len s → (c k : ℕ) → c < chunkCount (m .nrows) len → getD (s .starts) c 0 ≤ k → k < getD (s .starts) (c + 1) 0 → Among m side len s c k
+among m side len h f s g c k q a b =
+    record { is = rw (lo-at m side len s g k, hi-at m side len s g k, local-at m side len s g k, here) (all-at (SpanIs m (cols side) (sideDof side) len c) _ (chunkSpans m side len c) i (spans-are m (cols side) (sideDof side) len h f c) below) }
+  where
+    i : ℕ
+    i = k - getD (s .starts) c 0
+
+    below : i < length (chunkSpans m side len c)
+    below = omega (arith, start-at m side len s g c (omega arith), start-at m side len s g (c + 1) (omega arith), start-next m side len s g c)
+
+    here : spanIn (sideSpans m side len) k ≡ spanIn (chunkSpans m side len c) i
+    here =
+        let e : k ≡ length (flat (chunkSpans m side len) c) + i = omega (arith, start-at m side len s g c (omega arith)) in
+        ap (λ (j : ℕ). spanIn (sideSpans m side len) j) e ∙ chunk-at m side len s g c i q below
+
 -- ---- row by row
 
 module _ (m : Columns) (side : List ℕ) (len : ℕ) (h : Chunked (m .nrows) len) (f : (l : ℕ) → l < sideDof side → ColumnRises (m .ptrs) (m .rows) (m .nrows) (getD (cols side) l 0)) (s : Spread) (g : Planned m side len s) (v : List Float) (r : ℕ) where
@@ -112,10 +138,5 @@ module _ (m : Columns) (side : List ℕ) (len : ℕ) (h : Chunked (m .nrows) len
 
   -- and no span of another chunk has any
   pub other-span : (c k : ℕ) → c < chunkCount (m .nrows) len → (r / len ≡ c → ⊥) → getD (s .starts) c 0 ≤ k → k < getD (s .starts) (c + 1) 0 → ownTerms r (spanTerms m s v k) ≡ []
-  other-span c k q ne a b =
-      let u : getD (s .starts) c 0 ≡ length (flat (chunkSpans m side len) c) = start-at m side len s g c (omega arith) in
-      let w : getD (s .starts) (c + 1) 0 ≡ length (flat (chunkSpans m side len) (c + 1)) = start-at m side len s g (c + 1) (omega arith) in
-      let e : k ≡ length (flat (chunkSpans m side len) c) + (k - length (flat (chunkSpans m side len) c)) = omega arith in
-      let z : k - length (flat (chunkSpans m side len) c) < length (chunkSpans m side len c) = omega (arith, start-next m side len s g c) in
-      ap (ownTerms r) (span-at m side len s g v k ∙ ap (λ (j : ℕ). termsOf m v (spanIn (sideSpans m side len) j)) e ∙ ap (termsOf m v) (chunk-at m side len s g c (k - length (flat (chunkSpans m side len) c)) q z))
-      ∙ span-quiet m (cols side) (sideDof side) len v (h .some-len) r c _ (all-at (SpanIs m (cols side) (sideDof side) len c) _ (chunkSpans m side len c) (k - length (flat (chunkSpans m side len) c)) (spans-are m (cols side) (sideDof side) len h f c) z) ne
+  unfolding spanTerms
+  other-span c k q ne a b = span-quiet m (cols side) (sideDof side) len v (h .some-len) r c (spanOf s k) (among m side len h f s g c k q a b .is) ne
