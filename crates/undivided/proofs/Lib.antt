@@ -6,3 +6,5 @@ pub mod PlanTerms
 pub mod OrderLaws
 pub mod OrderTerms
 pub mod PlanPasses
+pub mod Demand3
+pub mod Hall

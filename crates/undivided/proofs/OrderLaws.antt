@@ -11,7 +11,8 @@ use lib.ListN.{length, getD}
 use borrow.Author.Tests.{eq-eqb, ne-eqb, lt-ltb, le-ltb, ltb-true, ltb-false}
 use Rattle.ground.specs.First.{first, some}
 use Rattle.ground.proofs.FirstLaws.{past-none, none-past}
-use Rattle.columns.specs.Refusals.{Told, tell, done}
+use Rattle.columns.specs.Refusals.{Told, tell, done, Passes}
+use Rattle.columns.proofs.RefusalLaws.{passed}
 use Rattle.plan.specs.Spans.{Spread}
 use Rattle.products.specs.Orders.{spanCount, served, hasNext, placeBad, chunkLeft, badOrder}
 use Rattle.undivided.specs.Undivided.{Serves}
@@ -72,38 +73,23 @@ module _ (chunks : ℕ) (s : Spread) (order : List ℕ) where
   unfolding chunkLeft
   least-left c e = le-ltb (served order c (length order)) (spanCount s c) (omega arith)
 
-  -- what done says of the two tests
+  -- what a pass says of the two tests
   abbrev places : Bool
   places = some (placeBad chunks s order) 0 (length order)
 
   abbrev lefts : Bool
   lefts = some (chunkLeft s order) 0 chunks
 
-  no-place : badOrder chunks s order ≡ done → places ≡ false
+  none-bad : Passes (badOrder chunks s order) → (places ≡ false) × (lefts ≡ false)
   unfolding badOrder
-  no-place e = go places refl e
-    where
-      go : (t : Bool) → places ≡ t → cond t (tell 14 (first (placeBad chunks s order) 0 (length order) ∷ [])) (cond lefts (tell 14 (length order ∷ [])) done) ≡ done → places ≡ false
-      go true p e = absurd (let z : _≡_ {A = ℕ} 14 0 = ap (λ (t : Told). t .number) e in omega arith)
-      go false p e = p
-
-  with-places : places ≡ false → badOrder chunks s order ≡ done → cond lefts (tell 14 (length order ∷ [])) done ≡ done
-  unfolding badOrder
-  with-places p e = rw p at e
-
-  no-left : badOrder chunks s order ≡ done → lefts ≡ false
-  no-left e = go lefts refl (with-places (no-place e) e)
-    where
-      go : (t : Bool) → lefts ≡ t → cond t (tell 14 (length order ∷ [])) done ≡ done → lefts ≡ false
-      go true p e = absurd (let z : _≡_ {A = ℕ} 14 0 = ap (λ (t : Told). t .number) e in omega arith)
-      go false p e = p
+  none-bad e = let a = passed places 13 _ (cond lefts (tell 14 (length order ∷ [])) done) e in (a .0, passed lefts 13 _ done (a .1) .0)
 
   -- each place of an accepted order is so
-  pub accepted-next : badOrder chunks s order ≡ done → (i : ℕ) → i < length order → Next i
-  accepted-next e i h = place-next i (past-none (placeBad chunks s order) 0 (length order) (no-place e) i (omega arith) h)
+  pub accepted-next : Passes (badOrder chunks s order) → (i : ℕ) → i < length order → Next i
+  accepted-next e i h = place-next i (past-none (placeBad chunks s order) 0 (length order) (none-bad e .0) i (omega arith) h)
 
   -- a chunk is not served more often than it has spans
-  served-most : badOrder chunks s order ≡ done → (c i : ℕ) → i ≤ length order → served order c i ≤ spanCount s c
+  served-most : Passes (badOrder chunks s order) → (c i : ℕ) → i ≤ length order → served order c i ≤ spanCount s c
   served-most e c zero h = rw (served-none order c) (omega arith)
   served-most e c (suc i) h = go (ℕ-discrete (getD order i 0) c) (served-most e c i (omega arith))
     where
@@ -114,14 +100,14 @@ module _ (chunks : ℕ) (s : Spread) (order : List ℕ) where
           rw (← (add-one i), served-same order c i q) (omega arith)
       go (no q) ih = rw (← (add-one i), served-other order c i q) ih
 
-  pub accepted-serves : badOrder chunks s order ≡ done → Serves chunks s order
+  pub accepted-serves : Passes (badOrder chunks s order) → Serves chunks s order
   accepted-serves e = record {
     each = λ c h. (let a = served-most e c (length order) (omega arith) in let b = least c h in omega arith);
     only = λ i h. accepted-next e i h .there;
   }
     where
       least : (c : ℕ) → c < chunks → spanCount s c ≤ served order c (length order)
-      least c h = left-least c (past-none (chunkLeft s order) 0 chunks (no-left e) c (omega arith) h)
+      least c h = left-least c (past-none (chunkLeft s order) 0 chunks (none-bad e .1) c (omega arith) h)
 
   pub serves-accepted : Serves chunks s order → badOrder chunks s order ≡ done
   unfolding badOrder
@@ -135,6 +121,6 @@ module _ (chunks : ℕ) (s : Spread) (order : List ℕ) where
           let e = x .each (getD order i 0) (x .only i h) in
           omega arith
 
-  -- T4
-  pub accepted-exactly : (badOrder chunks s order ≡ done → Serves chunks s order) × (Serves chunks s order → badOrder chunks s order ≡ done)
+  -- both ways
+  pub accepted-exactly : (Passes (badOrder chunks s order) → Serves chunks s order) × (Serves chunks s order → badOrder chunks s order ≡ done)
   accepted-exactly = (accepted-serves, serves-accepted)

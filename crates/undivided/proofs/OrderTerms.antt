@@ -11,7 +11,7 @@ use lib.Ieee.{Float}
 use Rattle.ground.specs.Gather.{gather}
 use Rattle.ground.proofs.GatherLaws.{gather-none, gather-last}
 use Rattle.ground.proofs.BucketLaws.{bucket-gather}
-use Rattle.columns.specs.Refusals.{done}
+use Rattle.columns.specs.Refusals.{Passes}
 use Rattle.columns.specs.Columns.{Columns}
 use Rattle.columns.specs.Sums.{RowTerm}
 use Rattle.blocks.specs.Sides.{cols, sideDof}
@@ -32,7 +32,7 @@ module _ (m : Columns) (side : List ℕ) (len : ℕ) (h : Chunked (m .nrows) len
   abbrev ownSpan : ℕ → List RowTerm
   ownSpan k = ownTerms r (spanTerms m s v k)
 
-  module _ (order : List ℕ) (ok : badOrder chunks s order ≡ done) where
+  module _ (order : List ℕ) (ok : Passes (badOrder chunks s order)) where
     -- the span that place i does
     abbrev spanAt : ℕ → ℕ
     spanAt i = getD (s .starts) (getD order i 0) 0 + served order (getD order i 0) i
@@ -67,7 +67,7 @@ module _ (m : Columns) (side : List ℕ) (len : ℕ) (h : Chunked (m .nrows) len
             let z : ownSpan (spanAt k) ≡ [] = other-span m side len h f s g v r (getD order k 0) (spanAt k) (x .there) (λ q. e (sym q)) (omega arith) (next-below k x) in
             rw (served-other order (r / len) k e, z) (append-nil _)
 
-    -- T3, the terms
+    -- along the whole order they are those of the undivided sweep
     pub order-terms : r < m .nrows → ownTerms r (orderTerms m s v order) ≡ ownTerms r (sideTerms m side v)
     unfolding orderTerms
     order-terms l =

@@ -23,7 +23,7 @@ use Rattle.plan.specs.Plan.{Buffers, planOf}
 use Rattle.plan.proofs.SpanLaws.{spans-are}
 use Rattle.products.specs.Orders.{entryOut, spanBad, chunkBad, startsBad, planBad, badPlan}
 use Rattle.undivided.specs.Undivided.{Planned, cut}
-use Rattle.undivided.proofs.PlanTerms.{start-at, starts-rise, starts-length, lo-length, hi-length, local-length, Among, among}
+use Rattle.undivided.proofs.PlanTerms.{start-at, starts-rise, starts-length, lo-length, hi-length, local-length, spanOf, among}
 
 -- ---- what the planner leaves
 
@@ -80,10 +80,9 @@ module _ (m : Columns) (side : List ℕ) (len : ℕ) (h : Chunked (m .nrows) len
   unfolding placeIn entryOut
   entry-in c p e = rw e
 
-  span-good : (c k : ℕ) → Among m side len s c k → spanBad m (sideDof side) len s c k ≡ false
+  span-good : (c k : ℕ) → SpanIs m (cols side) (sideDof side) len c (spanOf s k) → spanBad m (sideDof side) len s c k ≡ false
   unfolding spanBad
-  span-good c k a =
-      let i = a .is in
+  span-good c k i =
       let last = i .inside (getD (s .hi) k 0 - 1) (omega (arith, i .some)) (omega (arith, i .some)) .0 in
       let there = f (getD (s .local) k 0) (last .column) .inside .inside .each (getD (s .hi) k 0 - 1) (last .low) (last .high) .there in
       rw (
@@ -98,7 +97,7 @@ module _ (m : Columns) (side : List ℕ) (len : ℕ) (h : Chunked (m .nrows) len
   chunk-good c l =
       none-past (spanBad m (sideDof side) len s c) (getD (s .starts) c 0) (getD (s .starts) (c + 1) 0) (λ k u w. span-good c k (among m side len h f s g c k l u w))
 
-  -- T6
+  -- they pass 13
   pub planned-passes : (e : Bool) → badPlan e m side len s ≡ done
   unfolding badPlan planBad
   planned-passes e = rw (starts-good, none-past (chunkBad m (sideDof side) len s) 0 chunks (λ c _ l. chunk-good c l))

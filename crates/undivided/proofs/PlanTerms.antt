@@ -96,14 +96,12 @@ module _ (m : Columns) (side : List ℕ) (len : ℕ) (s : Spread) (g : Planned m
 abbrev pub spanOf : Spread → ℕ → Span
 spanOf s k = record { lo = getD (s .lo) k 0; hi = getD (s .hi) k 0; local = getD (s .local) k 0 }
 
--- it is one of chunk c
-pub record Among (m : Columns) (side : List ℕ) (len : ℕ) (s : Spread) (c k : ℕ) : Type 0 where
-  pub is : SpanIs m (cols side) (sideDof side) len c (spanOf s k)
-
+-- between two starts it is one of chunk c's spans
 pub among : (m : Columns) (side : List ℕ) (len : ℕ) → Chunked (m .nrows) len → ((l : ℕ) → l < sideDof side → ColumnRises (m .ptrs) (m .rows) (m .nrows) (getD (cols side) l 0))
-    → (s : Spread) → Planned m side len s → (c k : ℕ) → c < chunkCount (m .nrows) len → getD (s .starts) c 0 ≤ k → k < getD (s .starts) (c + 1) 0 → Among m side len s c k
+    → (s : Spread) → Planned m side len s → (c k : ℕ) → c < chunkCount (m .nrows) len → getD (s .starts) c 0 ≤ k → k < getD (s .starts) (c + 1) 0 → SpanIs m (cols side) (sideDof side) len c (spanOf s k)
 among m side len h f s g c k q a b =
-    record { is = rw (lo-at m side len s g k, hi-at m side len s g k, local-at m side len s g k, here) (all-at (SpanIs m (cols side) (sideDof side) len c) _ (chunkSpans m side len c) i (spans-are m (cols side) (sideDof side) len h f c) below) }
+    rw (lo-at m side len s g k, hi-at m side len s g k, local-at m side len s g k, here)
+    (all-at (SpanIs m (cols side) (sideDof side) len c) _ (chunkSpans m side len c) i (spans-are m (cols side) (sideDof side) len h f c) below)
   where
     i : ℕ
     i = k - getD (s .starts) c 0
@@ -139,4 +137,4 @@ module _ (m : Columns) (side : List ℕ) (len : ℕ) (h : Chunked (m .nrows) len
   -- and no span of another chunk has any
   pub other-span : (c k : ℕ) → c < chunkCount (m .nrows) len → (r / len ≡ c → ⊥) → getD (s .starts) c 0 ≤ k → k < getD (s .starts) (c + 1) 0 → ownTerms r (spanTerms m s v k) ≡ []
   unfolding spanTerms
-  other-span c k q ne a b = span-quiet m (cols side) (sideDof side) len v (h .some-len) r c (spanOf s k) (among m side len h f s g c k q a b .is) ne
+  other-span c k q ne a b = span-quiet m (cols side) (sideDof side) len v (h .some-len) r c (spanOf s k) (among m side len h f s g c k q a b) ne

@@ -40,7 +40,7 @@ landed-other : (sign : Sign) (y : List Float) (t : RowTerm) (r : ℕ) → (t .ro
 unfolding landed
 landed-other sign y t r e = getD-set-other y (t .row) r _ nan (λ q. e (sym q))
 
--- T1: row r holds what it held with its own terms, in order, each product rounded and then joined
+-- row r holds what it held with its own terms, in order, each product rounded and then joined
 pub row-swept : (sign : Sign) (y : List Float) (ts : List RowTerm) (r : ℕ) → r < length y → getD (sweptOn sign y ts) r nan ≡ joinAll sign (getD y r nan) (ownTerms r ts)
 unfolding folded bucket
 row-swept sign y [] r h = refl

@@ -1,5 +1,6 @@
 -- What the laws of this crate speak of: a row's own terms and their sum, a chunk's terms, and lists that are a side's plan. Assumes nothing.
 use mathlib.Core.Path.{_≡_}
+use mathlib.Core.Bool.{Bool}
 use mathlib.Core.List.{List, map}
 use Prim.Native.Nat.{ℕ, _+_, _<_}
 use lib.ListN.{length, getD, take}
@@ -8,10 +9,13 @@ use Rattle.ground.specs.Fold.{folded}
 use Rattle.ground.specs.Gather.{gather}
 use Rattle.ground.specs.Buckets.{bucket}
 use Rattle.columns.specs.declared.unchecked.Sign.{Sign}
-use Rattle.columns.specs.Columns.{Columns}
+use Rattle.columns.specs.Columns.{Columns, columnCount, Keeps}
 use Rattle.columns.specs.Sums.{RowTerm, product, joined}
+use Rattle.blocks.specs.Sides.{sideOf}
+use Rattle.blocks.specs.Claims.{Parted}
 use Rattle.plan.specs.Lists.{startsOf}
 use Rattle.plan.specs.Spans.{chunkCount, chunkSpans, sideSpans, Spread}
+use Rattle.plan.specs.SpanWalk.{Chunked}
 use Rattle.products.specs.Orders.{spanTerms, served, spanCount}
 
 -- ---- one row
@@ -40,6 +44,14 @@ pub record Planned (m : Columns) (side : List ℕ) (len : ℕ) (s : Spread) : Ty
   pub lo-are : s .lo ≡ map (λ x. x .lo) (sideSpans m side len)
   pub hi-are : s .hi ≡ map (λ x. x .hi) (sideSpans m side len)
   pub local-are : s .local ≡ map (λ x. x .local) (sideSpans m side len)
+
+-- columns and blocks keep the rules, the chunk length and the rows are within the limits, and the four lists are the plan of the kept side, or of
+-- the eliminated one
+pub record SidePlanned (m : Columns) (kept elims : List ℕ) (e : Bool) (len : ℕ) (s : Spread) : Type 0 where
+  pub keeps : Keeps m
+  pub parted : Parted (columnCount m) kept elims
+  pub chunked : Chunked (m .nrows) len
+  pub planned : Planned m (sideOf e kept elims) len s
 
 -- four lists cut to their used parts, for n chunks and k spans
 abbrev pub cut : ℕ → ℕ → Spread → Spread
