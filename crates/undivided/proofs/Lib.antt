@@ -1,5 +1,4 @@
 -- The laws of specs/.
-pub mod ItemLaws
 pub mod TermLaws
 pub mod SpanTerms
 pub mod PlanTerms

@@ -24,7 +24,7 @@ use Rattle.plan.proofs.SpanLaws.{spans-are}
 use Rattle.products.specs.Orders.{spanTerms, planTerms, spanCount}
 use Rattle.products.specs.SideSums.{sideTerms}
 use Rattle.undivided.specs.Undivided.{ownTerms, chunkTerms, Planned, cut}
-use Rattle.undivided.proofs.ItemLaws.{each, each-gather, gather-items, gather-only}
+use Rattle.ground.proofs.ItemLaws.{each, each-gather, gather-items, gather-only}
 use Rattle.undivided.proofs.SpanTerms.{termsOf, span-quiet, chunk-quiet, chunk-own}
 
 -- ---- the lists

@@ -26,7 +26,7 @@ use Rattle.plan.proofs.ChunkLaws.{in-chunk}
 use Rattle.plan.proofs.SpanLaws.{spans-are}
 use Rattle.undivided.specs.Undivided.{ownTerms}
 use Rattle.undivided.proofs.TermLaws.{own-nil}
-use Rattle.undivided.proofs.ItemLaws.{each, each-none, each-one, each-empty, each-gather, gather-part}
+use Rattle.ground.proofs.ItemLaws.{each, each-none, each-one, each-empty, each-gather, gather-part}
 
 -- ---- places
 
