@@ -7,3 +7,4 @@ pub mod OrderTerms
 pub mod PlanPasses
 pub mod Demand3
 pub mod Hall
+pub mod StepLaws
