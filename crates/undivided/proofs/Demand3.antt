@@ -1,7 +1,7 @@
 -- Demand 3, second half: with the plan of a side, every accepted work order hands each row the same terms in the same order as the undivided sweep
 -- of that side, column by column in block order, and so makes the same rows; whichever the order and whichever the chunk length. Assumes nothing.
 use mathlib.Core.Path.{_≡_, sym, _∙_}
-use mathlib.Core.Bool.{Bool, true, false, cond}
+use mathlib.Core.Bool.{Bool}
 use mathlib.Core.List.{List}
 use Prim.Native.Nat.{ℕ, _/_, _<_}
 use lib.ListN.{length, getD}
@@ -19,15 +19,11 @@ use Rattle.plan.proofs.SideSpanLaws.{side-rises}
 use Rattle.plan.proofs.PlanLaws.{Sound, unconnected-left}
 use Rattle.products.specs.Orders.{planTerms, badOrder, badPlan, orderTerms}
 use Rattle.products.specs.SideSums.{sideTerms}
-use Rattle.undivided.specs.Undivided.{ownTerms, chunkTerms, SidePlanned, cut}
+use Rattle.undivided.specs.Undivided.{ownTerms, chunkTerms, SidePlanned, cut, listsOf, Lengths}
 use Rattle.undivided.proofs.TermLaws.{rows-same}
 use Rattle.undivided.proofs.PlanTerms.{chunk-terms, plan-terms}
 use Rattle.undivided.proofs.OrderTerms.{order-terms}
-use Rattle.undivided.proofs.PlanPasses.{plan-planned, planned-passes, Lengths, planned-lengths}
-
--- the lists of one side, of all that a plan leaves
-abbrev pub listsOf : Bool → Buffers → Spread
-listsOf e b = cond e (b .elims) (b .kept)
+use Rattle.undivided.proofs.PlanPasses.{plan-planned, planned-passes, planned-lengths}
 
 -- where no row connects two eliminated blocks, what planning leaves of either side is its plan
 pub left-planned : (m : Columns) (kept elims : List ℕ) (len : ℕ) (b : Buffers) → Sound m kept elims len b → (Connects m elims → ⊥) → (e : Bool)

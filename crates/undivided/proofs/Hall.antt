@@ -1,7 +1,7 @@
 -- The built-in hall with L = 2 is what demand 3 speaks of: its lists are the plans of its sides, and order 2, 0, 1 is accepted, so that it makes
 -- the rows of the undivided sweep. They are case 3's. Assumes nothing.
 use mathlib.Core.Path.{_≡_, refl, _∙_}
-use mathlib.Core.Bool.{Bool, true, false}
+use mathlib.Core.Bool.{true, false}
 use mathlib.Core.List.{List, [], _∷_}
 use Prim.Native.Nat.{ℕ}
 use native.Mathlib.Omega.{arith}

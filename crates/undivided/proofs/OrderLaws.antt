@@ -1,17 +1,17 @@
 -- A work order is accepted exactly if it serves each chunk as often as it has spans and names no other chunk. Assumes nothing.
-use mathlib.Core.Path.{_≡_, refl, sym, ap, _∙_}
+use mathlib.Core.Path.{_≡_, refl}
 use mathlib.Core.Bool.{Bool, true, false, not, _&&_, cond}
 use mathlib.Core.List.{List, [], _∷_}
 use Prim.Native.Nat.{ℕ, zero, suc, _+_, _-_, _≤_, _<_}
 use native.Mathlib.Omega.{arith}
-use native.Mathlib.Decide.{ℕ-discrete, decLt}
+use native.Mathlib.Decide.{ℕ-discrete}
 use native.Mathlib.Numerals.{add-one}
-use lib.Dec.{eqb, ltb}
+use lib.Dec.{ltb}
 use lib.ListN.{length, getD}
 use borrow.Author.Tests.{eq-eqb, ne-eqb, lt-ltb, le-ltb, ltb-true, ltb-false}
-use Rattle.ground.specs.First.{first, some}
+use Rattle.ground.specs.First.{some}
 use Rattle.ground.proofs.FirstLaws.{past-none, none-past}
-use Rattle.columns.specs.Refusals.{Told, tell, done, Passes}
+use Rattle.columns.specs.Refusals.{tell, done, Passes}
 use Rattle.columns.proofs.RefusalLaws.{passed}
 use Rattle.plan.specs.Spans.{Spread}
 use Rattle.products.specs.Orders.{spanCount, served, hasNext, placeBad, chunkLeft, badOrder}

@@ -1,6 +1,6 @@
 -- Along an accepted work order a row's own terms are those of the undivided sweep: the places that name the row's chunk do its spans one after the
 -- other, and no other chunk's span has a term of the row. Assumes nothing.
-use mathlib.Core.Path.{_≡_, refl, sym, ap, _∙_}
+use mathlib.Core.Path.{_≡_, sym, ap, _∙_}
 use mathlib.Core.List.{List, [], _++_, append-nil}
 use Prim.Native.Nat.{ℕ, zero, suc, _+_, _-_, _/_, _≤_, _<_}
 use native.Mathlib.Omega.{arith}
@@ -20,7 +20,7 @@ use Rattle.plan.specs.SpanWalk.{Chunked, ColumnRises}
 use Rattle.plan.proofs.ChunkLaws.{chunk-there}
 use Rattle.products.specs.Orders.{spanTerms, spanCount, served, badOrder, orderTerms}
 use Rattle.products.specs.SideSums.{sideTerms}
-use Rattle.undivided.specs.Undivided.{ownTerms, chunkTerms, Planned, Serves}
+use Rattle.undivided.specs.Undivided.{rowOf, ownTerms, Planned}
 use Rattle.undivided.proofs.PlanTerms.{starts-rise, chunk-terms, other-span}
 use Rattle.undivided.proofs.OrderLaws.{Next, served-none, served-same, served-other, accepted-next, accepted-serves}
 
@@ -73,8 +73,8 @@ module _ (m : Columns) (side : List ℕ) (len : ℕ) (h : Chunked (m .nrows) len
     order-terms l =
         let c : r / len < chunks = chunk-there len (h .some-len) (m .nrows) r l in
         let e : start + served order (r / len) (length order) ≡ getD (s .starts) (r / len + 1) 0 = all-served c in
-        bucket-gather (λ (t : RowTerm). t .row) r (λ i. spanTerms m s v (spanAt i)) 0 (length order)
+        bucket-gather rowOf r (λ i. spanTerms m s v (spanAt i)) 0 (length order)
         ∙ order-walk (length order) (omega arith)
         ∙ ap (λ (k : ℕ). gather ownSpan start k) e
-        ∙ sym (bucket-gather (λ (t : RowTerm). t .row) r (spanTerms m s v) start (getD (s .starts) (r / len + 1) 0))
+        ∙ sym (bucket-gather rowOf r (spanTerms m s v) start (getD (s .starts) (r / len + 1) 0))
         ∙ chunk-terms m side len h f s g v r l

@@ -1,28 +1,25 @@
 -- What the planner leaves in a side's four lists, cut to their used parts, is the side's plan; and such lists pass 13 and have the lengths that 11
 -- asks. Assumes nothing.
-use mathlib.Core.Path.{_≡_, refl, sym, ap, _∙_}
-use mathlib.Core.Bool.{Bool, true, false, not, _||_, cond}
+use mathlib.Core.Path.{_≡_, sym, ap, _∙_}
+use mathlib.Core.Bool.{Bool, true, false}
 use mathlib.Core.List.{List, map}
-use Prim.Native.Nat.{ℕ, _+_, _-_, _≤_, _<_}
+use Prim.Native.Nat.{ℕ, _+_, _-_, _<_}
 use native.Mathlib.Omega.{arith}
-use lib.Dec.{eqb, leb, ltb}
-use lib.ListN.{length, getD, drop, length-map}
+use lib.ListN.{length, getD, length-map}
 use lib.Seq.{take-at}
 use borrow.Author.Tests.{eq-eqb, le-ltb, lt-leb}
-use Rattle.ground.specs.First.{first, some}
-use Rattle.ground.proofs.EachLaws.{all-at}
+use Rattle.ground.specs.First.{some}
 use Rattle.ground.proofs.FirstLaws.{none-past}
 use Rattle.ground.proofs.GatherLaws.{gather-none, length-listOf}
 use Rattle.columns.specs.Refusals.{done}
 use Rattle.columns.specs.Columns.{Columns, entryCount, falls}
 use Rattle.blocks.specs.Sides.{cols, sideDof, sideOf}
 use Rattle.plan.specs.Lists.{flat, startsOf}
-use Rattle.plan.specs.Spans.{chunkCount, inChunk, placeIn, Span, spanIn, chunkSpans, sideSpans, Spread, spread, SpanIs}
+use Rattle.plan.specs.Spans.{chunkCount, placeIn, chunkSpans, sideSpans, Spread, spread, SpanIs}
 use Rattle.plan.specs.SpanWalk.{Chunked, ColumnRises}
 use Rattle.plan.specs.Plan.{Buffers, planOf}
-use Rattle.plan.proofs.SpanLaws.{spans-are}
 use Rattle.products.specs.Orders.{entryOut, spanBad, chunkBad, startsBad, planBad, badPlan}
-use Rattle.undivided.specs.Undivided.{Planned, cut}
+use Rattle.undivided.specs.Undivided.{Planned, cut, listsOf, Lengths}
 use Rattle.undivided.proofs.PlanTerms.{start-at, starts-rise, starts-length, lo-length, hi-length, local-length, spanOf, among}
 
 -- ---- what the planner leaves
@@ -41,18 +38,12 @@ spread-planned m side len b = record {
 -- so are each side's of a plan
 pub plan-planned : (m : Columns) (kept elims : List ℕ) (len : ℕ) (b : Buffers) (e : Bool)
     → Planned m (sideOf e kept elims) len
-    (cut (chunkCount (m .nrows) len) (length (sideSpans m (sideOf e kept elims) len)) (cond e (planOf m kept elims len b .elims) (planOf m kept elims len b .kept)))
+    (cut (chunkCount (m .nrows) len) (length (sideSpans m (sideOf e kept elims) len)) (listsOf e (planOf m kept elims len b)))
 unfolding planOf
 plan-planned m kept elims len b true = spread-planned m elims len (b .elims)
 plan-planned m kept elims len b false = spread-planned m kept len (b .kept)
 
 -- ---- 11 and 13
-
--- starts one more than chunks; hi and local as long as lo
-pub record Lengths (chunks : ℕ) (s : Spread) : Type 0 where
-  pub starts : length (s .starts) ≡ chunks + 1
-  pub hi : length (s .hi) ≡ length (s .lo)
-  pub local : length (s .local) ≡ length (s .lo)
 
 pub planned-lengths : (m : Columns) (side : List ℕ) (len : ℕ) (s : Spread) → Planned m side len s → Lengths (chunkCount (m .nrows) len) s
 planned-lengths m side len s g = record {

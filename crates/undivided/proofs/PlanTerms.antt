@@ -1,30 +1,27 @@
 -- The terms of a planned side, row by row: those of a row's chunk are those of the undivided sweep, and no other chunk has one. Assumes nothing.
-use mathlib.Core.Path.{_≡_, refl, sym, ap, _∙_}
-use mathlib.Core.List.{List, [], map}
+use mathlib.Core.Path.{_≡_, sym, ap, _∙_}
+use mathlib.Core.List.{List, []}
 use Prim.Native.Nat.{ℕ, _+_, _-_, _/_, _≤_, _<_}
 use native.Mathlib.Omega.{arith}
 use native.Mathlib.Nat.{zero-add}
-use lib.ListN.{length, getD, take, drop, length-map, length-append, List·getD-map}
-use lib.Seq.{take-at}
-use lib.Ieee.{Float, nan}
-use Rattle.ground.specs.Gather.{gather, listOf}
+use lib.ListN.{length, getD, length-map, length-append, List·getD-map}
+use lib.Ieee.{Float}
+use Rattle.ground.specs.Gather.{gather}
 use Rattle.ground.proofs.EachLaws.{all-at}
+use Rattle.ground.proofs.ItemLaws.{each, each-gather, gather-items, gather-only}
 use Rattle.ground.proofs.GatherLaws.{gather-last, length-listOf, getD-listOf}
-use Rattle.ground.proofs.ListLaws.{gather-less, gather-at}
+use Rattle.ground.proofs.ListLaws.{gather-at}
 use Rattle.ground.proofs.BucketLaws.{bucket-gather}
 use Rattle.columns.specs.Columns.{Columns}
-use Rattle.columns.specs.Sums.{RowTerm}
-use Rattle.columns.specs.JacobianOps.{landings}
 use Rattle.blocks.specs.Sides.{cols, sideDof}
-use Rattle.plan.specs.Lists.{flat, startsOf}
-use Rattle.plan.specs.Spans.{chunkCount, Span, spanIn, chunkSpans, sideSpans, Spread, spread, laid, SpanIs}
+use Rattle.plan.specs.Lists.{flat}
+use Rattle.plan.specs.Spans.{chunkCount, Span, spanIn, chunkSpans, sideSpans, Spread, SpanIs}
 use Rattle.plan.specs.SpanWalk.{Chunked, ColumnRises}
 use Rattle.plan.proofs.ChunkLaws.{chunk-there}
 use Rattle.plan.proofs.SpanLaws.{spans-are}
-use Rattle.products.specs.Orders.{spanTerms, planTerms, spanCount}
+use Rattle.products.specs.Orders.{spanTerms, planTerms}
 use Rattle.products.specs.SideSums.{sideTerms}
-use Rattle.undivided.specs.Undivided.{ownTerms, chunkTerms, Planned, cut}
-use Rattle.ground.proofs.ItemLaws.{each, each-gather, gather-items, gather-only}
+use Rattle.undivided.specs.Undivided.{rowOf, ownTerms, chunkTerms, Planned}
 use Rattle.undivided.proofs.SpanTerms.{termsOf, span-quiet, chunk-quiet, chunk-own}
 
 -- ---- the lists
@@ -129,7 +126,7 @@ module _ (m : Columns) (side : List ℕ) (len : ℕ) (h : Chunked (m .nrows) len
   pub plan-terms : r < m .nrows → ownTerms r (planTerms m s v) ≡ ownTerms r (sideTerms m side v)
   plan-terms l =
       ap (ownTerms r) (plan-items m side len s g v)
-      ∙ bucket-gather (λ (t : RowTerm). t .row) r (λ c. each (termsOf m v) (chunkSpans m side len c)) 0 (chunkCount (m .nrows) len)
+      ∙ bucket-gather rowOf r (λ c. each (termsOf m v) (chunkSpans m side len c)) 0 (chunkCount (m .nrows) len)
       ∙ gather-only (λ c. ownTerms r (each (termsOf m v) (chunkSpans m side len c))) 0 (chunkCount (m .nrows) len) (r / len) (omega arith) (chunk-there len (h .some-len) (m .nrows) r l)
       (λ c _ _ ne. chunk-quiet m (cols side) (sideDof side) len h f v r c (λ e. ne (sym e)))
       ∙ side-own

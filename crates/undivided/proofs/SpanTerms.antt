@@ -2,11 +2,9 @@
 use mathlib.Core.Path.{_≡_, refl, sym, ap, _∙_}
 use mathlib.Core.Bool.{Bool, true, false, cond}
 use mathlib.Core.List.{List, [], _∷_}
-use Prim.Native.Nat.{ℕ, _+_, _-_, _/_, _≤_, _<_}
+use Prim.Native.Nat.{ℕ, _-_, _/_, _≤_, _<_}
 use native.Mathlib.Omega.{arith}
-use native.Mathlib.Decide.{decLt}
-use lib.Dec.{eqb}
-use lib.ListN.{length, getD}
+use lib.ListN.{getD}
 use lib.Ieee.{Float, nan, eq}
 use borrow.Author.Tests.{eq-eqb, ne-eqb, eqb-true}
 use Rattle.ground.specs.First.{first, some}
@@ -15,18 +13,17 @@ use Rattle.ground.specs.Fold.{All}
 use Rattle.ground.specs.Buckets.{bucket}
 use Rattle.ground.proofs.EachLaws.{all-part}
 use Rattle.ground.proofs.FirstLaws.{past-none}
+use Rattle.ground.proofs.ItemLaws.{each, each-none, each-one, each-gather, gather-part}
 use Rattle.ground.proofs.GatherLaws.{gather-same, gather-empty}
-use Rattle.ground.proofs.BucketLaws.{bucket-append, bucket-gather}
+use Rattle.ground.proofs.BucketLaws.{bucket-nil, bucket-append, bucket-gather}
 use Rattle.columns.specs.Columns.{Columns, firstPlace, endPlace}
 use Rattle.columns.specs.Sums.{RowTerm, zero₊}
 use Rattle.columns.specs.JacobianOps.{landing, landings, sweepTerms}
-use Rattle.plan.specs.Spans.{placeIn, pastLast, Span, columnSpan, localSpans, EntryIn, SpanIs}
+use Rattle.plan.specs.Spans.{placeIn, pastLast, Span, columnSpan, localSpans, SpanIs}
 use Rattle.plan.specs.SpanWalk.{Chunked, ColumnRises}
 use Rattle.plan.proofs.ChunkLaws.{in-chunk}
 use Rattle.plan.proofs.SpanLaws.{spans-are}
-use Rattle.undivided.specs.Undivided.{ownTerms}
-use Rattle.undivided.proofs.TermLaws.{own-nil}
-use Rattle.ground.proofs.ItemLaws.{each, each-none, each-one, each-empty, each-gather, gather-part}
+use Rattle.undivided.specs.Undivided.{rowOf, ownTerms}
 
 -- ---- places
 
@@ -44,8 +41,8 @@ module _ (rows : List ℕ) (values : List Float) (x : Float) (r : ℕ) where
   own-landings lo hi = go (eq x zero₊)
     where
       go : (t : Bool) → ownTerms r (cond t [] (gather (landing rows values x) lo hi)) ≡ cond t [] (gather ownAt lo hi)
-      go true = own-nil r
-      go false = bucket-gather (λ (t : RowTerm). t .row) r (landing rows values x) lo hi
+      go true = bucket-nil rowOf r
+      go false = bucket-gather rowOf r (landing rows values x) lo hi
 
   -- none of the places has row r
   own-quiet : (lo hi : ℕ) → ((p : ℕ) → lo ≤ p → p < hi → getD rows p 0 ≡ r → ⊥) → ownTerms r (landings rows values x lo hi) ≡ []
@@ -117,7 +114,7 @@ module _ (m : Columns) (cs : List ℕ) (n len : ℕ) (v : List Float) (s : 0 < l
       go : (t : Bool) → some (placeIn m len (r / len)) (firstPlace m (getD cs l 0)) (endPlace m (getD cs l 0)) ≡ t → All (SpanIs m cs n len (r / len)) (cond t (x ∷ []) [])
           → ownTerms r (each (termsOf m v) (cond t (x ∷ []) [])) ≡ ownTerms r (sweepTerms m (getD v l nan) (getD cs l 0))
       go true t a = ap (ownTerms r) (each-one (termsOf m v) x) ∙ span-own x (a .0)
-      go false t a = ap (ownTerms r) (each-none (termsOf m v)) ∙ own-nil r ∙ sym (column-quiet l (getD cs l 0) t)
+      go false t a = ap (ownTerms r) (each-none (termsOf m v)) ∙ bucket-nil rowOf r ∙ sym (column-quiet l (getD cs l 0) t)
 
 -- ---- chunks
 
@@ -128,8 +125,8 @@ local-is m cs n len c = refl
 -- items none of which has a term of row r
 items-quiet : {X : Type 0} (P : X → Type 0) (g : X → List RowTerm) (r : ℕ) → ((x : X) → P x → ownTerms r (g x) ≡ []) → (xs : List X) → All P xs → ownTerms r (each g xs) ≡ []
 unfolding each
-items-quiet P g r e [] a = own-nil r
-items-quiet P g r e (x ∷ xs) a = bucket-append (λ (t : RowTerm). t .row) r (g x) (each g xs) ∙ rw (e x (a .0), items-quiet P g r e xs (a .1))
+items-quiet P g r e [] a = bucket-nil rowOf r
+items-quiet P g r e (x ∷ xs) a = bucket-append rowOf r (g x) (each g xs) ∙ rw (e x (a .0), items-quiet P g r e xs (a .1))
 
 module _ (m : Columns) (cs : List ℕ) (n len : ℕ) (h : Chunked (m .nrows) len) (f : (l : ℕ) → l < n → ColumnRises (m .ptrs) (m .rows) (m .nrows) (getD cs l 0)) (v : List Float) (r : ℕ) where
   pub chunk-quiet : (c : ℕ) → (r / len ≡ c → ⊥) → ownTerms r (each (termsOf m v) (localSpans m cs n len c)) ≡ []
@@ -148,6 +145,6 @@ module _ (m : Columns) (cs : List ℕ) (n len : ℕ) (h : Chunked (m .nrows) len
       parts a =
           ap (λ xs. ownTerms r (each (termsOf m v) xs)) parts-are
           ∙ ap (ownTerms r) (each-gather (termsOf m v) (λ l. columnSpan m len (r / len) l (getD cs l 0)) 0 n)
-          ∙ bucket-gather (λ (t : RowTerm). t .row) r _ 0 n
+          ∙ bucket-gather rowOf r _ 0 n
           ∙ gather-same _ _ 0 n (λ l u w. column-own m cs n len v (h .some-len) r l (all-part (SpanIs m cs n len (r / len)) (λ l. columnSpan m len (r / len) l (getD cs l 0)) 0 n l u w (rw parts-are at a)))
-          ∙ sym (bucket-gather (λ (t : RowTerm). t .row) r (λ l. sweepTerms m (getD v l nan) (getD cs l 0)) 0 n)
+          ∙ sym (bucket-gather rowOf r (λ l. sweepTerms m (getD v l nan) (getD cs l 0)) 0 n)

@@ -1,26 +1,24 @@
 -- A sweep that passes is its steps in list order, from its starting rows and progress zero; and so, with the plan of a side, both leave the rows of
 -- the undivided sweep. Assumes nothing.
 use mathlib.Core.Path.{_≡_, refl, sym, ap, _∙_}
-use mathlib.Core.Bool.{Bool, true, false, _&&_, cond}
-use mathlib.Core.List.{List, [], _∷_, _++_}
+use mathlib.Core.Bool.{Bool, true, false}
+use mathlib.Core.List.{List}
 use Prim.Native.Nat.{ℕ, zero, suc, _+_, _≤_, _<_}
 use native.Mathlib.Omega.{arith}
 use native.Mathlib.Decide.{ℕ-discrete}
 use native.Mathlib.Numerals.{add-one}
-use lib.Dec.{ltb}
 use lib.ListN.{length, getD, set, replicate, length-set, length-replicate, getD-replicate}
 use lib.Seq.{getD-set-same, getD-set-other, ext-getD}
 use lib.Ieee.{Float}
 use borrow.Author.Tests.{lt-ltb}
 use Rattle.ground.specs.Range.{range}
 use Rattle.ground.specs.Gather.{gather, listOf}
-use Rattle.ground.specs.Fold.{folded}
 use Rattle.ground.proofs.RangeLaws.{range-none, range-last}
 use Rattle.ground.proofs.GatherLaws.{gather-none, gather-last, length-listOf, getD-listOf}
 use Rattle.ground.proofs.FoldLaws.{folded-none, folded-append}
-use Rattle.columns.specs.Refusals.{Told, tell, done, Passes, onPass, orElse}
+use Rattle.columns.specs.Refusals.{Told, done, Passes, onPass, orElse}
 use Rattle.columns.specs.Lengths.{wrongLength}
-use Rattle.columns.specs.Columns.{Columns, columnCount}
+use Rattle.columns.specs.Columns.{Columns}
 use Rattle.columns.specs.Sums.{RowTerm, landed, sweptOn, zero₊}
 use Rattle.columns.proofs.RefusalLaws.{pass-done, both-pass}
 use Rattle.columns.proofs.CallLaws.{lengths-right}

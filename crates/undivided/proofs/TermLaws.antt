@@ -4,34 +4,18 @@ use mathlib.Core.Path.{_≡_, refl, sym, ap, _∙_}
 use mathlib.Core.List.{List, [], _∷_}
 use Prim.Native.Nat.{ℕ, _<_}
 use native.Mathlib.Decide.{ℕ-discrete}
-use lib.ListN.{length, getD, length-set}
+use lib.ListN.{length, getD}
 use lib.Seq.{getD-set-same, getD-set-other, ext-getD}
 use lib.Ieee.{Float, nan}
-use borrow.Author.Tests.{eq-eqb, ne-eqb}
 use Rattle.ground.specs.Fold.{folded}
 use Rattle.ground.specs.Buckets.{bucket}
+use Rattle.ground.proofs.BucketLaws.{bucket-same, bucket-other}
 use Rattle.columns.specs.declared.unchecked.Sign.{Sign}
-use Rattle.columns.specs.Sums.{RowTerm, joined, landed, sweptOn, product}
-use Rattle.columns.proofs.SumLaws.{length-swept}
-use Rattle.undivided.specs.Undivided.{ownTerms, joinTerm, joinAll}
-
-pub own-nil : (r : ℕ) → ownTerms r [] ≡ []
-unfolding bucket
-own-nil r = refl
-
-own-same : (r : ℕ) (t : RowTerm) (ts : List RowTerm) → t .row ≡ r → ownTerms r (t ∷ ts) ≡ t ∷ ownTerms r ts
-unfolding bucket
-own-same r t ts e = rw (eq-eqb (t .row) r e)
-
-own-other : (r : ℕ) (t : RowTerm) (ts : List RowTerm) → (t .row ≡ r → ⊥) → ownTerms r (t ∷ ts) ≡ ownTerms r ts
-unfolding bucket
-own-other r t ts e = rw (ne-eqb (t .row) r e)
+use Rattle.columns.specs.Sums.{RowTerm, landed, sweptOn}
+use Rattle.columns.proofs.SumLaws.{length-landed, length-swept}
+use Rattle.undivided.specs.Undivided.{rowOf, ownTerms, joinTerm, joinAll}
 
 -- one term, seen from row r
-landed-length : (sign : Sign) (y : List Float) (t : RowTerm) → length (landed sign y t) ≡ length y
-unfolding landed
-landed-length sign y t = simp length-set
-
 landed-same : (sign : Sign) (y : List Float) (t : RowTerm) (r : ℕ) → r < length y → t .row ≡ r → getD (landed sign y t) r nan ≡ joinTerm sign (getD y r nan) t
 unfolding landed joinTerm
 landed-same sign y t r h e = rw e (getD-set-same y r _ nan h)
@@ -44,11 +28,11 @@ landed-other sign y t r e = getD-set-other y (t .row) r _ nan (λ q. e (sym q))
 pub row-swept : (sign : Sign) (y : List Float) (ts : List RowTerm) (r : ℕ) → r < length y → getD (sweptOn sign y ts) r nan ≡ joinAll sign (getD y r nan) (ownTerms r ts)
 unfolding folded bucket
 row-swept sign y [] r h = refl
-row-swept sign y (t ∷ ts) r h = row-swept sign (landed sign y t) ts r (rw (landed-length sign y t) h) ∙ go (ℕ-discrete (t .row) r)
+row-swept sign y (t ∷ ts) r h = row-swept sign (landed sign y t) ts r (rw (length-landed sign y t) h) ∙ go (ℕ-discrete (t .row) r)
   where
     go : Dec (t .row ≡ r) → joinAll sign (getD (landed sign y t) r nan) (ownTerms r ts) ≡ joinAll sign (getD y r nan) (ownTerms r (t ∷ ts))
-    go (yes e) = rw (landed-same sign y t r h e, own-same r t ts e)
-    go (no e) = rw (landed-other sign y t r e, own-other r t ts e)
+    go (yes e) = rw (landed-same sign y t r h e, bucket-same rowOf r t ts e)
+    go (no e) = rw (landed-other sign y t r e, bucket-other rowOf r t ts e)
 
 -- term lists that agree row by row make the same rows
 pub rows-same : (sign : Sign) (y : List Float) (ts us : List RowTerm) → ((r : ℕ) → r < length y → ownTerms r ts ≡ ownTerms r us) → sweptOn sign y ts ≡ sweptOn sign y us

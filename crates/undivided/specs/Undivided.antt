@@ -1,6 +1,6 @@
 -- What the laws of this crate speak of: a row's own terms and their sum, a chunk's terms, and lists that are a side's plan. Assumes nothing.
 use mathlib.Core.Path.{_≡_}
-use mathlib.Core.Bool.{Bool}
+use mathlib.Core.Bool.{Bool, cond}
 use mathlib.Core.List.{List, map}
 use Prim.Native.Nat.{ℕ, _+_, _<_}
 use lib.ListN.{length, getD, take, replicate}
@@ -18,13 +18,17 @@ use Rattle.blocks.specs.Claims.{Parted}
 use Rattle.plan.specs.Lists.{startsOf}
 use Rattle.plan.specs.Spans.{chunkCount, chunkSpans, sideSpans, Spread}
 use Rattle.plan.specs.SpanWalk.{Chunked}
+use Rattle.plan.specs.Plan.{Buffers}
 use Rattle.products.specs.Orders.{spanTerms, served, spanCount, Swept, stepOf, startRows}
 
 -- ---- one row
 
 -- those of some terms that go to row r, in their order
+abbrev pub rowOf : RowTerm → ℕ
+rowOf t = t .row
+
 abbrev pub ownTerms : ℕ → List RowTerm → List RowTerm
-ownTerms r ts = bucket (λ (t : RowTerm). t .row) r ts
+ownTerms r ts = bucket rowOf r ts
 
 -- a row's value with one of its terms: the product rounded, and then joined
 unfoldable pub joinTerm : Sign → Float → RowTerm → Float
@@ -58,6 +62,16 @@ pub record SidePlanned (m : Columns) (kept elims : List ℕ) (e : Bool) (len : �
 -- four lists cut to their used parts, for n chunks and k spans
 abbrev pub cut : ℕ → ℕ → Spread → Spread
 cut n k s = record { starts = take (n + 1) (s .starts); lo = take k (s .lo); hi = take k (s .hi); local = take k (s .local) }
+
+-- the kept side's, or the eliminated one's, of all that a plan leaves
+abbrev pub listsOf : Bool → Buffers → Spread
+listsOf e b = cond e (b .elims) (b .kept)
+
+-- the lengths that 11 asks of them: one more start than chunks; hi and local as long as lo
+pub record Lengths (chunks : ℕ) (s : Spread) : Type 0 where
+  pub starts : length (s .starts) ≡ chunks + 1
+  pub hi : length (s .hi) ≡ length (s .lo)
+  pub local : length (s .local) ≡ length (s .lo)
 
 -- ---- a work order
 
