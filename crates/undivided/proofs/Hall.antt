@@ -20,12 +20,13 @@ use Rattle.columns.specs.JacobianOps.{landing, landings}
 use Rattle.blocks.specs.Sides.{blockColumns, offsetOf}
 use Rattle.blocks.specs.Claims.{tooMany, isOdd, listsTold, emptySide, earlyTold, blockClaims, placeOf, claimBad, walkTold, gapTold, blocksTold, BlocksKeep}
 use Rattle.blocks.proofs.PartLaws.{passes-parted}
-use Rattle.plan.specs.Spans.{chunkCount, inChunk, placeIn, pastLast, columnSpan, localSpans, Spread}
+use Rattle.plan.specs.Spans.{chunkTold, chunkCount, inChunk, placeIn, pastLast, columnSpan, localSpans, Spread}
 use Rattle.plan.specs.SpanWalk.{Chunked}
-use Rattle.products.specs.Orders.{spanCount, served, hasNext, placeBad, chunkLeft, badOrder, orderTerms}
+use Rattle.products.specs.Orders.{entryOut, spanBad, chunkBad, startsBad, planBad, badPlan, spanCount, served, hasNext, placeBad, chunkLeft, badOrder, orderTerms, sweepTold₁₄}
 use Rattle.products.specs.SideSums.{sideTerms}
-use Rattle.undivided.specs.Undivided.{Planned, SidePlanned}
+use Rattle.undivided.specs.Undivided.{Planned, SidePlanned, stepsTo, unstepped}
 use Rattle.undivided.proofs.Demand3.{rows-of-order}
+use Rattle.undivided.proofs.StepLaws.{steps-undivided}
 
 abbrev f : ℕ → Float
 f n = ofInt binary64 (pos n)
@@ -71,12 +72,15 @@ kept-planned = record { keeps = hall-keep .keeps; parted = hall-keep .parted; ch
 pub elims-planned : SidePlanned hall kept elims true 2 elimsLists
 elims-planned = record { keeps = hall-keep .keeps; parted = hall-keep .parted; chunked = hall-chunked; planned = elims-lists }
 
--- order 2, 0, 1 is accepted on either side
-pub kept-accepted : badOrder (chunkCount 5 2) keptLists (2 ∷ 0 ∷ 1 ∷ []) ≡ done
+-- an order that is accepted on either side
+abbrev order : List ℕ
+order = 2 ∷ 0 ∷ 1 ∷ []
+
+pub kept-accepted : badOrder (chunkCount 5 2) keptLists order ≡ done
 unfolding first firstN chunkCount spanCount served hasNext placeBad chunkLeft badOrder
 kept-accepted = refl
 
-pub elims-accepted : badOrder (chunkCount 5 2) elimsLists (2 ∷ 0 ∷ 1 ∷ []) ≡ done
+pub elims-accepted : badOrder (chunkCount 5 2) elimsLists order ≡ done
 unfolding first firstN chunkCount spanCount served hasNext placeBad chunkLeft badOrder
 elims-accepted = refl
 
@@ -92,8 +96,25 @@ elims-undivided : sweptOn Minus firstRows (sideTerms hall elims (f 3 ∷ f 5 ∷
 unfolding ofInt ofBits gather gatherN folded firstIn endIn blockColumns offsetOf landing landings landed joined sideTerms add sub mul eq
 elims-undivided = refl
 
-pub kept-rows : sweptOn Plus (replicate 5 (f 0)) (orderTerms hall keptLists (f 2 ∷ []) (2 ∷ 0 ∷ 1 ∷ [])) ≡ firstRows
-kept-rows = rows-of-order hall kept elims false 2 keptLists kept-planned Plus (replicate 5 (f 0)) refl (f 2 ∷ []) (2 ∷ 0 ∷ 1 ∷ []) (rw kept-accepted) ∙ kept-undivided
+pub kept-rows : sweptOn Plus (replicate 5 (f 0)) (orderTerms hall keptLists (f 2 ∷ []) order) ≡ firstRows
+kept-rows = rows-of-order hall kept elims false 2 keptLists kept-planned Plus (replicate 5 (f 0)) refl (f 2 ∷ []) order (rw kept-accepted) ∙ kept-undivided
 
-pub elims-rows : sweptOn Minus firstRows (orderTerms hall elimsLists (f 3 ∷ f 5 ∷ []) (2 ∷ 0 ∷ 1 ∷ [])) ≡ ofInt binary64 (negsuc 0) ∷ f 1 ∷ f 0 ∷ ofInt binary64 (negsuc 3) ∷ f 3 ∷ []
-elims-rows = rows-of-order hall kept elims true 2 elimsLists elims-planned Minus firstRows refl (f 3 ∷ f 5 ∷ []) (2 ∷ 0 ∷ 1 ∷ []) (rw elims-accepted) ∙ elims-undivided
+pub elims-rows : sweptOn Minus firstRows (orderTerms hall elimsLists (f 3 ∷ f 5 ∷ []) order) ≡ ofInt binary64 (negsuc 0) ∷ f 1 ∷ f 0 ∷ ofInt binary64 (negsuc 3) ∷ f 3 ∷ []
+elims-rows = rows-of-order hall kept elims true 2 elimsLists elims-planned Minus firstRows refl (f 3 ∷ f 5 ∷ []) order (rw elims-accepted) ∙ elims-undivided
+
+-- of the whole calls: both sweeps pass, and so their steps in that order leave the same rows
+kept-sweep : Passes (sweepTold₁₄ false hall kept elims 2 (replicate 3 0) (f 2 ∷ []) keptLists (replicate 5 (f 0)) (replicate 3 0) order)
+unfolding firstN first gatherN gather onPass pairBad pairsTold firstIn endIn tooBig falls badShape rowBad rowFalls columnBad badRow checked blockColumns offsetOf tooMany isOdd listsTold emptySide blockClaims placeOf claimBad walkTold gapTold chunkTold chunkCount inChunk entryOut spanBad chunkBad startsBad planBad badPlan spanCount served hasNext placeBad chunkLeft badOrder
+kept-sweep = refl
+
+elims-sweep : Passes (sweepTold₁₄ true hall kept elims 2 (replicate 3 0) (f 3 ∷ f 5 ∷ []) elimsLists firstRows (replicate 3 0) order)
+unfolding firstN first gatherN gather onPass pairBad pairsTold firstIn endIn tooBig falls badShape rowBad rowFalls columnBad badRow checked blockColumns offsetOf tooMany isOdd listsTold emptySide blockClaims placeOf claimBad walkTold gapTold chunkTold chunkCount inChunk entryOut spanBad chunkBad startsBad planBad badPlan spanCount served hasNext placeBad chunkLeft badOrder
+elims-sweep = refl
+
+pub kept-steps : stepsTo false hall kept elims 2 (replicate 3 0) (f 2 ∷ []) keptLists order 3 (unstepped false hall 2 (replicate 3 0) (replicate 5 (f 0))) .rows ≡ firstRows
+unfolding ofInt ofBits
+kept-steps = steps-undivided false hall kept elims 2 (replicate 3 0) (f 2 ∷ []) keptLists (replicate 5 (f 0)) (replicate 3 0) order kept-sweep kept-planned ∙ kept-undivided
+
+pub elims-steps : stepsTo true hall kept elims 2 (replicate 3 0) (f 3 ∷ f 5 ∷ []) elimsLists order 3 (unstepped true hall 2 (replicate 3 0) firstRows) .rows
+    ≡ ofInt binary64 (negsuc 0) ∷ f 1 ∷ f 0 ∷ ofInt binary64 (negsuc 3) ∷ f 3 ∷ []
+elims-steps = steps-undivided true hall kept elims 2 (replicate 3 0) (f 3 ∷ f 5 ∷ []) elimsLists firstRows (replicate 3 0) order elims-sweep elims-planned ∙ elims-undivided

@@ -6,5 +6,5 @@ pub mod OrderLaws
 pub mod OrderTerms
 pub mod PlanPasses
 pub mod Demand3
-pub mod Hall
 pub mod StepLaws
+pub mod Hall
