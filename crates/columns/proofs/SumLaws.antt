@@ -7,7 +7,7 @@ use Rattle.ground.proofs.FoldLaws.{folded-keeps}
 use Rattle.columns.specs.declared.unchecked.Sign.{Sign}
 use Rattle.columns.specs.Sums.{RowTerm, landed, sweptOn}
 
-length-landed : (sign : Sign) (y : List Float) (t : RowTerm) → length (landed sign y t) ≡ length y
+pub length-landed : (sign : Sign) (y : List Float) (t : RowTerm) → length (landed sign y t) ≡ length y
 unfolding landed
 length-landed sign y t = simp length-set
 

@@ -1,0 +1,120 @@
+-- The built-in hall with L = 2 is what demand 3 speaks of: its lists are the plans of its sides, and order 2, 0, 1 is accepted, so that it makes
+-- the rows of the undivided sweep. They are case 3's. Assumes nothing.
+use mathlib.Core.Path.{_≡_, refl, _∙_}
+use mathlib.Core.Bool.{true, false}
+use mathlib.Core.List.{List, [], _∷_}
+use Prim.Native.Nat.{ℕ}
+use native.Mathlib.Omega.{arith}
+use lib.IntN.{pos, negsuc}
+use lib.ListN.{replicate}
+use lib.Ieee.{Float, binary64, ofInt, ofBits, add, sub, mul, eq}
+use Rattle.ground.specs.First.{first, firstN}
+use Rattle.ground.specs.Gather.{gather, gatherN}
+use Rattle.ground.specs.Fold.{folded}
+use Rattle.columns.specs.declared.unchecked.Sign.the-variants.{Plus, Minus}
+use Rattle.columns.specs.Refusals.{Passes, done, onPass}
+use Rattle.columns.specs.Lengths.{pairBad, pairsTold}
+use Rattle.columns.specs.Columns.{Columns, columnsOf, firstIn, endIn, tooBig, falls, badShape, rowBad, rowFalls, columnBad, badRow, checked}
+use Rattle.columns.specs.Sums.{joined, landed, sweptOn}
+use Rattle.columns.specs.JacobianOps.{landing, landings}
+use Rattle.blocks.specs.Sides.{blockColumns, offsetOf}
+use Rattle.blocks.specs.Claims.{tooMany, isOdd, listsTold, emptySide, earlyTold, blockClaims, placeOf, claimBad, walkTold, gapTold, blocksTold, BlocksKeep}
+use Rattle.blocks.proofs.PartLaws.{passes-parted}
+use Rattle.plan.specs.Spans.{chunkTold, chunkCount, inChunk, placeIn, pastLast, columnSpan, localSpans, Spread}
+use Rattle.plan.specs.SpanWalk.{Chunked}
+use Rattle.products.specs.Orders.{entryOut, spanBad, chunkBad, startsBad, planBad, badPlan, spanCount, served, hasNext, placeBad, chunkLeft, badOrder, orderTerms, sweepTold₁₄}
+use Rattle.products.specs.SideSums.{sideTerms}
+use Rattle.undivided.specs.Undivided.{Planned, SidePlanned, stepsTo, unstepped}
+use Rattle.undivided.proofs.Demand3.{rows-of-order}
+use Rattle.undivided.proofs.StepLaws.{steps-undivided}
+
+abbrev f : ℕ → Float
+f n = ofInt binary64 (pos n)
+
+abbrev hall : Columns
+hall = columnsOf 5 (0 ∷ 4 ∷ 6 ∷ 8 ∷ []) (0 ∷ 1 ∷ 3 ∷ 4 ∷ 0 ∷ 1 ∷ 3 ∷ 4 ∷ []) (f 1 ∷ f 2 ∷ f 3 ∷ f 4 ∷ f 1 ∷ f 1 ∷ f 2 ∷ f 1 ∷ [])
+
+abbrev kept : List ℕ
+kept = 0 ∷ 1 ∷ []
+
+abbrev elims : List ℕ
+elims = 1 ∷ 1 ∷ 2 ∷ 1 ∷ []
+
+-- it keeps the rules
+hall-passes : Passes (blocksTold hall kept elims (replicate 3 0))
+unfolding firstN first gatherN gather onPass pairBad pairsTold firstIn endIn tooBig falls badShape rowBad rowFalls columnBad badRow checked blockColumns tooMany isOdd listsTold emptySide earlyTold blockClaims placeOf claimBad walkTold gapTold blocksTold
+hall-passes = refl
+
+hall-keep : BlocksKeep hall kept elims (replicate 3 0)
+hall-keep = passes-parted hall kept elims (replicate 3 0) hall-passes
+
+hall-chunked : Chunked 5 2
+hall-chunked = record { some-len = omega arith; few-len = omega arith; few-rows = omega arith }
+
+-- case 2's spans are the plans of its sides
+abbrev keptLists : Spread
+keptLists = record { starts = 0 ∷ 1 ∷ 2 ∷ 3 ∷ []; lo = 0 ∷ 2 ∷ 3 ∷ []; hi = 2 ∷ 3 ∷ 4 ∷ []; local = 0 ∷ 0 ∷ 0 ∷ [] }
+
+abbrev elimsLists : Spread
+elimsLists = record { starts = 0 ∷ 1 ∷ 2 ∷ 3 ∷ []; lo = 4 ∷ 6 ∷ 7 ∷ []; hi = 6 ∷ 7 ∷ 8 ∷ []; local = 0 ∷ 1 ∷ 1 ∷ [] }
+
+kept-lists : Planned hall kept 2 keptLists
+unfolding first firstN gather gatherN firstIn endIn blockColumns offsetOf chunkCount inChunk placeIn pastLast columnSpan localSpans
+kept-lists = record { starts-are = refl; lo-are = refl; hi-are = refl; local-are = refl }
+
+elims-lists : Planned hall elims 2 elimsLists
+unfolding first firstN gather gatherN firstIn endIn blockColumns offsetOf chunkCount inChunk placeIn pastLast columnSpan localSpans
+elims-lists = record { starts-are = refl; lo-are = refl; hi-are = refl; local-are = refl }
+
+pub kept-planned : SidePlanned hall kept elims false 2 keptLists
+kept-planned = record { keeps = hall-keep .keeps; parted = hall-keep .parted; chunked = hall-chunked; planned = kept-lists }
+
+pub elims-planned : SidePlanned hall kept elims true 2 elimsLists
+elims-planned = record { keeps = hall-keep .keeps; parted = hall-keep .parted; chunked = hall-chunked; planned = elims-lists }
+
+-- an order that is accepted on either side
+abbrev order : List ℕ
+order = 2 ∷ 0 ∷ 1 ∷ []
+
+pub kept-accepted : badOrder (chunkCount 5 2) keptLists order ≡ done
+unfolding first firstN chunkCount spanCount served hasNext placeBad chunkLeft badOrder
+kept-accepted = refl
+
+pub elims-accepted : badOrder (chunkCount 5 2) elimsLists order ≡ done
+unfolding first firstN chunkCount spanCount served hasNext placeBad chunkLeft badOrder
+elims-accepted = refl
+
+-- so, by demand 3, it makes case 3's rows: its first ones from +0.0, and from those its last ones
+abbrev firstRows : List Float
+firstRows = f 2 ∷ f 4 ∷ f 0 ∷ f 6 ∷ f 8 ∷ []
+
+kept-undivided : sweptOn Plus (replicate 5 (f 0)) (sideTerms hall kept (f 2 ∷ [])) ≡ firstRows
+unfolding ofInt ofBits gather gatherN folded firstIn endIn blockColumns offsetOf landing landings landed joined sideTerms add mul eq
+kept-undivided = refl
+
+elims-undivided : sweptOn Minus firstRows (sideTerms hall elims (f 3 ∷ f 5 ∷ [])) ≡ ofInt binary64 (negsuc 0) ∷ f 1 ∷ f 0 ∷ ofInt binary64 (negsuc 3) ∷ f 3 ∷ []
+unfolding ofInt ofBits gather gatherN folded firstIn endIn blockColumns offsetOf landing landings landed joined sideTerms add sub mul eq
+elims-undivided = refl
+
+pub kept-rows : sweptOn Plus (replicate 5 (f 0)) (orderTerms hall keptLists (f 2 ∷ []) order) ≡ firstRows
+kept-rows = rows-of-order hall kept elims false 2 keptLists kept-planned Plus (replicate 5 (f 0)) refl (f 2 ∷ []) order (rw kept-accepted) ∙ kept-undivided
+
+pub elims-rows : sweptOn Minus firstRows (orderTerms hall elimsLists (f 3 ∷ f 5 ∷ []) order) ≡ ofInt binary64 (negsuc 0) ∷ f 1 ∷ f 0 ∷ ofInt binary64 (negsuc 3) ∷ f 3 ∷ []
+elims-rows = rows-of-order hall kept elims true 2 elimsLists elims-planned Minus firstRows refl (f 3 ∷ f 5 ∷ []) order (rw elims-accepted) ∙ elims-undivided
+
+-- of the whole calls: both sweeps pass, and so their steps in that order leave the same rows
+kept-sweep : Passes (sweepTold₁₄ false hall kept elims 2 (replicate 3 0) (f 2 ∷ []) keptLists (replicate 5 (f 0)) (replicate 3 0) order)
+unfolding firstN first gatherN gather onPass pairBad pairsTold firstIn endIn tooBig falls badShape rowBad rowFalls columnBad badRow checked blockColumns offsetOf tooMany isOdd listsTold emptySide blockClaims placeOf claimBad walkTold gapTold chunkTold chunkCount inChunk entryOut spanBad chunkBad startsBad planBad badPlan spanCount served hasNext placeBad chunkLeft badOrder
+kept-sweep = refl
+
+elims-sweep : Passes (sweepTold₁₄ true hall kept elims 2 (replicate 3 0) (f 3 ∷ f 5 ∷ []) elimsLists firstRows (replicate 3 0) order)
+unfolding firstN first gatherN gather onPass pairBad pairsTold firstIn endIn tooBig falls badShape rowBad rowFalls columnBad badRow checked blockColumns offsetOf tooMany isOdd listsTold emptySide blockClaims placeOf claimBad walkTold gapTold chunkTold chunkCount inChunk entryOut spanBad chunkBad startsBad planBad badPlan spanCount served hasNext placeBad chunkLeft badOrder
+elims-sweep = refl
+
+pub kept-steps : stepsTo false hall kept elims 2 (replicate 3 0) (f 2 ∷ []) keptLists order 3 (unstepped false hall 2 (replicate 3 0) (replicate 5 (f 0))) .rows ≡ firstRows
+unfolding ofInt ofBits
+kept-steps = steps-undivided false hall kept elims 2 (replicate 3 0) (f 2 ∷ []) keptLists (replicate 5 (f 0)) (replicate 3 0) order kept-sweep kept-planned ∙ kept-undivided
+
+pub elims-steps : stepsTo true hall kept elims 2 (replicate 3 0) (f 3 ∷ f 5 ∷ []) elimsLists order 3 (unstepped true hall 2 (replicate 3 0) firstRows) .rows
+    ≡ ofInt binary64 (negsuc 0) ∷ f 1 ∷ f 0 ∷ ofInt binary64 (negsuc 3) ∷ f 3 ∷ []
+elims-steps = steps-undivided true hall kept elims 2 (replicate 3 0) (f 3 ∷ f 5 ∷ []) elimsLists firstRows (replicate 3 0) order elims-sweep elims-planned ∙ elims-undivided

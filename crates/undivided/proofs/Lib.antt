@@ -1,0 +1,10 @@
+-- The laws of specs/.
+pub mod TermLaws
+pub mod SpanTerms
+pub mod PlanTerms
+pub mod OrderLaws
+pub mod OrderTerms
+pub mod PlanPasses
+pub mod Demand3
+pub mod StepLaws
+pub mod Hall

@@ -1,0 +1,92 @@
+-- What the laws of this crate speak of: a row's own terms and their sum, a chunk's terms, and lists that are a side's plan. Assumes nothing.
+use mathlib.Core.Path.{_≡_}
+use mathlib.Core.Bool.{Bool, cond}
+use mathlib.Core.List.{List, map}
+use Prim.Native.Nat.{ℕ, _+_, _<_}
+use lib.ListN.{length, getD, take, replicate}
+use lib.Ieee.{Float}
+use Rattle.ground.specs.Range.{range}
+use Rattle.ground.specs.Fold.{folded}
+use Rattle.ground.specs.Gather.{gather}
+use Rattle.ground.specs.Buckets.{bucket}
+use Rattle.columns.specs.declared.unchecked.Sign.{Sign}
+use Rattle.columns.specs.Refusals.{done}
+use Rattle.columns.specs.Columns.{Columns, columnCount, Keeps}
+use Rattle.columns.specs.Sums.{RowTerm, product, joined}
+use Rattle.blocks.specs.Sides.{sideOf}
+use Rattle.blocks.specs.Claims.{Parted}
+use Rattle.plan.specs.Lists.{startsOf}
+use Rattle.plan.specs.Spans.{chunkCount, chunkSpans, sideSpans, Spread}
+use Rattle.plan.specs.SpanWalk.{Chunked}
+use Rattle.plan.specs.Plan.{Buffers}
+use Rattle.products.specs.Orders.{spanTerms, served, spanCount, Swept, stepOf, startRows}
+
+-- ---- one row
+
+-- those of some terms that go to row r, in their order
+abbrev pub rowOf : RowTerm → ℕ
+rowOf t = t .row
+
+abbrev pub ownTerms : ℕ → List RowTerm → List RowTerm
+ownTerms r ts = bucket rowOf r ts
+
+-- a row's value with one of its terms: the product rounded, and then joined
+unfoldable pub joinTerm : Sign → Float → RowTerm → Float
+joinTerm sign a t = joined sign a (product (t .term))
+
+-- and with some, in order
+abbrev pub joinAll : Sign → Float → List RowTerm → Float
+joinAll sign a ts = folded (joinTerm sign) a ts
+
+-- ---- a side's plan
+
+-- the terms of chunk c's spans, in their order
+abbrev pub chunkTerms : Columns → Spread → List Float → ℕ → List RowTerm
+chunkTerms m s v c = gather (spanTerms m s v) (getD (s .starts) c 0) (getD (s .starts) (c + 1) 0)
+
+-- the four lists are the side's chunk starts, and the lo, hi and local of its spans: nothing less, and nothing more
+pub record Planned (m : Columns) (side : List ℕ) (len : ℕ) (s : Spread) : Type 0 where
+  pub starts-are : s .starts ≡ startsOf (chunkSpans m side len) (chunkCount (m .nrows) len)
+  pub lo-are : s .lo ≡ map (λ x. x .lo) (sideSpans m side len)
+  pub hi-are : s .hi ≡ map (λ x. x .hi) (sideSpans m side len)
+  pub local-are : s .local ≡ map (λ x. x .local) (sideSpans m side len)
+
+-- columns and blocks keep the rules, the chunk length and the rows are within the limits, and the four lists are the plan of the kept side, or of
+-- the eliminated one
+pub record SidePlanned (m : Columns) (kept elims : List ℕ) (e : Bool) (len : ℕ) (s : Spread) : Type 0 where
+  pub keeps : Keeps m
+  pub parted : Parted (columnCount m) kept elims
+  pub chunked : Chunked (m .nrows) len
+  pub planned : Planned m (sideOf e kept elims) len s
+
+-- four lists cut to their used parts, for n chunks and k spans
+abbrev pub cut : ℕ → ℕ → Spread → Spread
+cut n k s = record { starts = take (n + 1) (s .starts); lo = take k (s .lo); hi = take k (s .hi); local = take k (s .local) }
+
+-- the kept side's, or the eliminated one's, of all that a plan leaves
+abbrev pub listsOf : Bool → Buffers → Spread
+listsOf e b = cond e (b .elims) (b .kept)
+
+-- the lengths that 11 asks of them: one more start than chunks; hi and local as long as lo
+pub record Lengths (chunks : ℕ) (s : Spread) : Type 0 where
+  pub starts : length (s .starts) ≡ chunks + 1
+  pub hi : length (s .hi) ≡ length (s .lo)
+  pub local : length (s .local) ≡ length (s .lo)
+
+-- ---- a work order
+
+-- it serves each chunk as often as it has spans, and names no other
+pub record Serves (chunks : ℕ) (s : Spread) (order : List ℕ) : Type 0 where
+  pub each : (c : ℕ) → c < chunks → served order c (length order) ≡ spanCount s c
+  pub only : (i : ℕ) → i < length order → getD order i 0 < chunks
+
+-- ---- steps along a work order
+
+-- the steps of an order's places up to k: each on the rows and the progress that the one before left, where all else lent stays the same
+unfoldable pub stepsTo : Bool → Columns → List ℕ → List ℕ → ℕ → List ℕ → List Float → Spread → List ℕ → ℕ → Swept → Swept
+stepsTo e m kept elims len map v s order k w =
+    range (λ i (w : Swept). stepOf e m kept elims len map v s (w .rows) (w .progress) (getD order i 0)) 0 k w
+
+-- before the first step: a sweep's starting rows, and progress zero
+abbrev pub unstepped : Bool → Columns → ℕ → List ℕ → List Float → Swept
+unstepped e m len map rows = record { told = done; map = map; rows = startRows e rows; progress = replicate (chunkCount (m .nrows) len) 0 }
