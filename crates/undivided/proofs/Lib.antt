@@ -8,3 +8,4 @@ pub mod PlanPasses
 pub mod Demand3
 pub mod StepLaws
 pub mod Hall
+pub mod OperatorLaws

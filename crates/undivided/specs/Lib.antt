@@ -1,1 +1,2 @@
 pub mod Undivided
+pub mod Plain
