@@ -1,3 +1,5 @@
 pub mod SideSums
+pub mod SideFits
 pub mod Couplings
+pub mod LentCalls
 pub mod Orders
