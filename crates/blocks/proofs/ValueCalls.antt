@@ -1,7 +1,7 @@
 -- What the calls of src/eliminated_blocks.rt show that are lent block values: what they tell, what a refusal leaves, and what a pass gives the
 -- work behind it. Assumes nothing.
 use mathlib.Core.Path.{_≡_, refl, sym, ap, _∙_}
-use mathlib.Core.Bool.{true}
+use mathlib.Core.Bool.{Bool, true}
 use mathlib.Core.List.{List, [], _∷_, _++_}
 use Prim.Native.Nat.{ℕ, zero, suc, _+_, _-_, _*_, _≤_, _<_}
 use native.Mathlib.Omega.{arith}
@@ -22,7 +22,7 @@ use Rattle.columns.proofs.RefusalLaws.{pass-refused, pass-done, both-pass}
 use Rattle.columns.proofs.CallLaws.{lengths-right}
 use Rattle.blocks.specs.declared.partition.Number.{Number}
 use Rattle.blocks.specs.declared.partition.Number.the-variants.{Is, Nothing}
-use Rattle.blocks.specs.Sides.{blockCount, firstOf, dofOf}
+use Rattle.blocks.specs.Sides.{blockCount, firstOf, dofOf, sideOf}
 use Rattle.blocks.specs.Claims.{mark, marked, placeOf, claims, earlyTold, blocksTold, mapLeft, Mapped, checkBlocks, BlocksKeep}
 use Rattle.blocks.specs.Access.{squareOf, squaresBefore, upTo}
 use Rattle.blocks.specs.BlockValues.{valueCount, valuesTold, checkValues, valuesLeft, Limited, BlocksFit}
@@ -51,18 +51,22 @@ module _ (elims : List ℕ) (lim : Limited elims) where
 -- ---- what a pass gives
 
 module _ (m : Columns) (kept elims map : List ℕ) (g : BlocksKeep m kept elims map) where
-  block-inside : (b : ℕ) → b < blockCount elims → firstOf elims b + dofOf elims b ≤ columnCount m
-  block-inside b l = go (decLt 0 (dofOf elims b))
+  -- a side's blocks are among the columns
+  pub block-inside : (e : Bool) (b : ℕ) → b < blockCount (sideOf e kept elims) → firstOf (sideOf e kept elims) b + dofOf (sideOf e kept elims) b ≤ columnCount m
+  block-inside e b l = go (decLt 0 (dofOf (sideOf e kept elims) b))
     where
-      go : Dec (0 < dofOf elims b) → firstOf elims b + dofOf elims b ≤ columnCount m
-      go (yes h) = omega (arith, g .parted .right true .inside b (dofOf elims b - 1) (firstOf elims b + (dofOf elims b - 1)) (record { block = l; offset = omega arith; is = refl }))
-      go (no h) = omega (arith, g .parted .right true .starts b l)
+      go : Dec (0 < dofOf (sideOf e kept elims) b) → firstOf (sideOf e kept elims) b + dofOf (sideOf e kept elims) b ≤ columnCount m
+      go (yes h) =
+          let d = dofOf (sideOf e kept elims) b in
+          let f = firstOf (sideOf e kept elims) b in
+          omega (arith, g .parted .right e .inside b (d - 1) (f + (d - 1)) (record { block = l; offset = omega arith; is = refl }))
+      go (no h) = omega (arith, g .parted .right e .starts b l)
 
   pub limited-of : Limited elims
-  limited-of = record { few = g .parted .right true .few; small = λ b l. omega (arith, block-inside b l, g .keeps .small .few-columns) }
+  limited-of = record { few = g .parted .right true .few; small = λ b l. omega (arith, block-inside true b l, g .keeps .small .few-columns) }
 
   pub fits-of : (n : ℕ) → n ≡ valueCount elims → BlocksFit m elims n
-  fits-of n e = record { keeps = g .keeps; inside = block-inside; room = e }
+  fits-of n e = record { keeps = g .keeps; inside = block-inside true; room = e }
 
 -- ---- the checks
 

@@ -62,7 +62,7 @@ fn squares_before(elims: &[u32], b: usize, most: usize) -> Number
 }
 
 // How many values all blocks have, where the blocks are within the limits.
-fn count_values(elims: &[u32]) -> usize
+pub fn count_values(elims: &[u32]) -> usize
     requires { ⌜ Limited (now elims) ⌝ }
     ensures { λ r. ⌜ r ≡ valueCount (now (elims .entry)) ⌝ }
 {

@@ -1,1 +1,6 @@
 -- The laws of specs/, and what the code's steps show of them.
+pub mod SideRules
+pub mod InverseRules
+pub mod LentRules
+pub mod UpdateLaws
+pub mod Cases
