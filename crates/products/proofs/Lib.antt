@@ -1,1 +1,2 @@
 -- The laws of specs/, and what the code's steps show of them.
+pub mod PlanRules

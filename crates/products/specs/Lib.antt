@@ -1,3 +1,5 @@
 pub mod SideSums
 pub mod Couplings
 pub mod Orders
+pub mod Side
+pub mod PlanCheck
