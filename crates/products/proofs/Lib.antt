@@ -1,2 +1,5 @@
 -- The laws of specs/, and what the code's steps show of them.
 pub mod PlanRules
+pub mod OrderRules
+pub mod SweepRules
+pub mod StepRules

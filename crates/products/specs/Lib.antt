@@ -3,3 +3,5 @@ pub mod Couplings
 pub mod Orders
 pub mod Side
 pub mod PlanCheck
+pub mod OrderWalk
+pub mod SweepCheck

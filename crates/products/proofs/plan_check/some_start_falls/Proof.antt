@@ -1,7 +1,7 @@
 -- `plan_check::some_start_falls` meets its contract. Assumes nothing.
 use mathlib.Core.Path.{_≡_}
 use mathlib.Core.Bool.{_||_}
-use Prim.Native.Nat.{_-_, _≤_}
+use Prim.Native.Nat.{_-_}
 use Rattle.ground.specs.First.{some}
 use Rattle.columns.specs.Columns.{falls}
 use Rattle.products.proofs.PlanRules.{planning}
