@@ -3,4 +3,8 @@ pub mod SideRules
 pub mod InverseRules
 pub mod LentRules
 pub mod UpdateLaws
+pub mod PlanRules
+pub mod OrderRules
+pub mod SweepRules
+pub mod StepRules
 pub mod Cases

@@ -3,4 +3,8 @@ pub mod SideFits
 pub mod Couplings
 pub mod LentCalls
 pub mod Orders
+pub mod Side
+pub mod PlanCheck
+pub mod OrderWalk
+pub mod SweepCheck
 pub mod Operator

@@ -1,0 +1,227 @@
+-- What the functions of src/plan_check.rt show: a lemma for each way that they return, and that looking at each chunk's spans by its first row
+-- and its end is what the definitions say. Assumes nothing.
+use mathlib.Core.Path.{_≡_, refl, sym, ap, _∙_, subst}
+use mathlib.Core.Bool.{Bool, true, false, not, _&&_, _||_}
+use mathlib.Core.List.{List, [], _∷_}
+use Prim.Native.Nat.{ℕ, zero, suc, _+_, _-_, _*_, _≤_, _<_}
+use native.Mathlib.Nat.{le-trans, le-of-eq, mul-le-mul, le-refl}
+use native.Mathlib.Decide.{decLt}
+use native.Mathlib.Omega.{arith}
+use lib.Dec.{eqb, leb, ltb}
+use lib.ListN.{length, getD}
+use borrow.Author.Needs.{needs}
+use borrow.Author.Tests.{lt-ltb, le-ltb, le-leb, lt-leb, eq-eqb, ne-eqb, ltb-false, eqb-true, not-false}
+use Rattle.ground.specs.First.{first, some}
+use Rattle.ground.proofs.FirstLaws.{by-call, past-none, first-same, some-first, some-none, some-turn, some-done}
+use Rattle.columns.specs.Refusals.{tell, done}
+use Rattle.columns.specs.Columns.{Columns, falls}
+use Rattle.columns.proofs.CheckLaws.{or-false}
+use Rattle.plan.specs.Spans.{inChunk, Spread}
+use Rattle.products.specs.Orders.{entryOut, spanBad, chunkBad, startsBad, planBad}
+use Rattle.products.specs.Side.{sideNumber}
+use Rattle.products.specs.PlanCheck.{rowsOnly, rowOut, spanOut, spanOutAt, startsOut, planTold, StartsThere, SpansThere, ChunkThere, ChunksThere, PlanThere}
+
+-- ---- a loop that stops at the first place where a test holds, and says whether there is one
+
+module _ (bad : ℕ → Bool) where
+  pub some-goes : {k hi : ℕ} {z : Bool} → k < hi → some bad k hi ≡ z → bad k ≡ false → some bad (k + 1) hi ≡ z
+  some-goes {k} {hi} h inv e = ap (λ (b : Bool). b || some bad (k + 1) hi) (sym e) ∙ sym (some-first bad k hi h) ∙ inv
+
+  pub some-stops : {k hi : ℕ} {z : Bool} → k < hi → some bad k hi ≡ z → bad k ≡ true → true ≡ z
+  some-stops {k} {hi} h inv e = ap (λ (b : Bool). b || some bad (k + 1) hi) (sym e) ∙ sym (some-first bad k hi h) ∙ inv
+
+  pub some-ends : {k hi : ℕ} {z : Bool} → hi ≤ k → some bad k hi ≡ z → false ≡ z
+  some-ends {k} {hi} h inv = sym (some-none bad k hi h) ∙ inv
+
+pub or-of : (b t u : Bool) → t ≡ u → (b || t) ≡ (b || u)
+or-of b t u e = rw e
+
+-- ---- entries and spans
+
+pub row-is-out : (rows : List ℕ) (from end p : ℕ) → (ltb (getD rows p 0) from || leb end (getD rows p 0)) ≡ rowOut rows from end p
+unfolding rowOut
+row-is-out rows from end p = refl
+
+module _ (rows : List ℕ) (from end dof a b l : ℕ) where
+  pub span-back : b < a → true ≡ spanOut rows from end dof a b l
+  unfolding spanOut
+  span-back h = rw (lt-ltb b a h)
+
+  pub span-past : a ≤ b → length rows < b → true ≡ spanOut rows from end dof a b l
+  unfolding spanOut
+  span-past h q = rw (le-ltb b a h, lt-ltb (length rows) b q)
+
+  pub span-local : a ≤ b → b ≤ length rows → dof ≤ l → true ≡ spanOut rows from end dof a b l
+  unfolding spanOut
+  span-local h q p = rw (le-ltb b a h, le-ltb (length rows) b q, le-leb dof l p)
+
+  pub span-rows : (t : Bool) → a ≤ b → b ≤ length rows → l < dof → t ≡ some (rowOut rows from end) a b → t ≡ spanOut rows from end dof a b l
+  unfolding spanOut
+  span-rows t h q p e = rw (le-ltb b a h, le-ltb (length rows) b q, lt-leb dof l p) e
+
+-- a, b and l are what the code read, and t what `span_bad` answered
+pub span-told : (rows : List ℕ) (from end dof : ℕ) (lo hi local : List ℕ) (k a b l : ℕ) (t z : Bool) → a ≡ getD lo k 0 → b ≡ getD hi k 0 → l ≡ getD local k 0
+    → t ≡ spanOut rows from end dof a b l → t ≡ z → spanOutAt rows from end dof lo hi local k ≡ z
+unfolding spanOutAt
+span-told rows from end dof lo hi local k a b l t z p q r e u = rw (← p, ← q, ← r) (sym e ∙ u)
+
+-- ---- chunks
+
+module _ (rows : List ℕ) (len c : ℕ) where
+  entry-is-out : (p : ℕ) → rowOut rows (c * len) (c * len + len) p ≡ entryOut (rowsOnly rows) len c p
+  unfolding rowOut entryOut inChunk
+  entry-is-out p = let e : (c + 1) * len ≡ c * len + len = omega arith in rw e (go (decLt (getD rows p 0) (c * len)) (decLt (getD rows p 0) (c * len + len)))
+    where
+      go : Dec (getD rows p 0 < c * len) → Dec (getD rows p 0 < c * len + len)
+          → (ltb (getD rows p 0) (c * len) || leb (c * len + len) (getD rows p 0)) ≡ not (leb (c * len) (getD rows p 0) && ltb (getD rows p 0) (c * len + len))
+      go (yes h) _ = rw (lt-ltb (getD rows p 0) (c * len) h, lt-leb (c * len) (getD rows p 0) h)
+      go (no h) (yes q) = rw (le-ltb (getD rows p 0) (c * len) (omega arith), le-leb (c * len) (getD rows p 0) (omega arith), lt-ltb (getD rows p 0) (c * len + len) q, lt-leb (c * len + len) (getD rows p 0) q)
+      go (no h) (no q) =
+          rw (le-ltb (getD rows p 0) (c * len) (omega arith), le-leb (c * len) (getD rows p 0) (omega arith), le-ltb (getD rows p 0) (c * len + len) (omega arith), le-leb (c * len + len) (getD rows p 0) (omega arith))
+
+  module _ (dof : ℕ) (s : Spread) where
+    span-is-bad : (k : ℕ) → spanOutAt rows (c * len) (c * len + len) dof (s .lo) (s .hi) (s .local) k ≡ spanBad (rowsOnly rows) dof len s c k
+    unfolding spanOutAt spanOut spanBad
+    span-is-bad k = rw (first-same (rowOut rows (c * len) (c * len + len)) (entryOut (rowsOnly rows) len c) (getD (s .lo) k 0) (getD (s .hi) k 0) (λ p _ _. entry-is-out p))
+
+    -- first and last are what the code read
+    pub chunk-told : (first last : ℕ) (t : Bool) → first ≡ getD (s .starts) c 0 → last ≡ getD (s .starts) (c + 1) 0
+        → t ≡ some (spanOutAt rows (c * len) (c * len + len) dof (s .lo) (s .hi) (s .local)) first last → t ≡ chunkBad (rowsOnly rows) dof len s c
+    unfolding chunkBad
+    chunk-told first last t p q e =
+        e ∙ rw (p, q, first-same (spanOutAt rows (c * len) (c * len + len) dof (s .lo) (s .hi) (s .local)) (spanBad (rowsOnly rows) dof len s c) (getD (s .starts) c 0) (getD (s .starts) (c + 1) 0) (λ k _ _. span-is-bad k))
+
+pub chunk-spans : (len : ℕ) (starts : List ℕ) (nlo nhi nlocal c last : ℕ) → ChunkThere len starts nlo nhi nlocal c → last ≡ getD starts (c + 1) 0 → SpansThere nlo nhi nlocal last
+chunk-spans len starts nlo nhi nlocal c last h e = rw e (h .spans)
+
+pub chunk-at : {len chunks : ℕ} {starts : List ℕ} {nlo nhi nlocal c : ℕ} → ChunksThere len chunks starts nlo nhi nlocal → c < chunks → ChunkThere len starts nlo nhi nlocal c
+chunk-at {c = c} h l = h .each c l
+
+-- ---- starts
+
+pub start-falls : (starts : List ℕ) (c : ℕ) → ltb (getD starts (c + 1) 0) (getD starts c 0) ≡ falls starts c
+unfolding falls
+start-falls starts c = refl
+
+module _ (chunks : ℕ) (starts : List ℕ) (n : ℕ) where
+  pub starts-first : (getD starts 0 0 ≡ 0 → ⊥) → true ≡ startsOut chunks starts n
+  unfolding startsOut
+  starts-first h = rw (ne-eqb (getD starts 0 0) 0 h)
+
+  pub starts-fall : (t : Bool) → getD starts 0 0 ≡ 0 → t ≡ some (falls starts) 0 chunks → t ≡ true → true ≡ startsOut chunks starts n
+  unfolding startsOut
+  starts-fall t h e q = rw (eq-eqb (getD starts 0 0) 0 h, ← e, q)
+
+  pub starts-end : (t : Bool) (k : ℕ) → getD starts 0 0 ≡ 0 → t ≡ some (falls starts) 0 chunks → t ≡ false → k ≡ getD starts chunks 0 → not (eqb k n) ≡ startsOut chunks starts n
+  unfolding startsOut
+  starts-end t k h e q p = rw (eq-eqb (getD starts 0 0) 0 h, ← e, q, ← p)
+
+-- starts that rise from 0 to n without falling
+pub record Rising (starts : List ℕ) (chunks n : ℕ) : Type 0 where
+  pub begins : getD starts 0 0 ≡ 0
+  pub rises : (c : ℕ) → c < chunks → getD starts c 0 ≤ getD starts (c + 1) 0
+  pub ends : getD starts chunks 0 ≡ n
+
+pub starts-rise : (chunks : ℕ) (starts : List ℕ) (n : ℕ) → startsOut chunks starts n ≡ false → Rising starts chunks n
+unfolding startsOut falls
+starts-rise chunks starts n e =
+    let a = or-false (not (eqb (getD starts 0 0) 0)) (some (falls starts) 0 chunks || not (eqb (getD starts chunks 0) n)) e in
+    let b = or-false (some (falls starts) 0 chunks) (not (eqb (getD starts chunks 0) n)) (a .1) in
+    record {
+      begins = eqb-true _ _ (not-false _ (a .0));
+      rises = λ c h. ltb-false _ _ (past-none (falls starts) 0 chunks (b .0) c (omega arith) h);
+      ends = eqb-true _ _ (not-false _ (b .1));
+    }
+
+module _ (starts : List ℕ) (chunks n : ℕ) (r : Rising starts chunks n) where
+  rises-by : (i d : ℕ) → i + d ≤ chunks → getD starts i 0 ≤ getD starts (i + d) 0
+  rises-by i zero l = le-of-eq (ap (λ (k : ℕ). getD starts k 0) (omega arith))
+  rises-by i (suc d) l =
+      let e : i + d + 1 ≡ i + suc d = omega arith in
+      le-trans (rises-by i d (omega arith)) (subst (λ (k : ℕ). getD starts (i + d) 0 ≤ getD starts k 0) e (r .rises (i + d) (omega arith)))
+
+  -- each of them is at most n
+  pub rising-within : (c : ℕ) → c ≤ chunks → getD starts c 0 ≤ n
+  rising-within c l = let e : c + (chunks - c) ≡ chunks = omega arith in le-trans (rises-by c (chunks - c) (omega arith)) (le-of-eq (ap (λ (k : ℕ). getD starts k 0) e ∙ r .ends))
+
+  pub record Between (k : ℕ) : Type 0 where
+    pub chunk : ℕ
+    pub there : chunk < chunks
+    pub low : getD starts chunk 0 ≤ k
+    pub high : k < getD starts (chunk + 1) 0
+
+  -- and each number below n lies between two
+  find : (k i : ℕ) → i ≤ chunks → k < getD starts i 0 → Between k
+  find k zero l h = absurd (omega (arith, r .begins))
+  find k (suc i) l h = go (decLt k (getD starts i 0)) (find k i (omega arith))
+    where
+      go : Dec (k < getD starts i 0) → (k < getD starts i 0 → Between k) → Between k
+      go (yes p) ih = ih p
+      go (no p) ih = let e : i + 1 ≡ suc i = omega arith in record { chunk = i; there = omega arith; low = omega arith; high = rw e h }
+
+  pub rising-find : (k : ℕ) → k < n → Between k
+  rising-find k h = find k chunks (le-refl chunks) (rw (r .ends) h)
+
+-- ---- the whole
+
+module _ (len chunks : ℕ) (starts : List ℕ) (nlo nhi nlocal : ℕ) (p : PlanThere len chunks (length starts) nlo nhi nlocal) where
+  pub plan-starts : StartsThere (length starts) chunks
+  plan-starts = record { there = omega (arith, p .starts) }
+
+  pub plan-chunks : (t : Bool) → t ≡ startsOut chunks starts nlo → t ≡ false → ChunksThere len chunks starts nlo nhi nlocal
+  plan-chunks t e q =
+      let r = starts-rise chunks starts nlo (sym e ∙ q) in
+      record {
+        each = λ c h.
+            let w = rising-within starts chunks nlo r (c + 1) (omega arith) in
+            let u : suc c * len ≤ chunks * len = mul-le-mul h (le-refl len) in
+            let v : suc c * len ≡ c * len + len = omega arith in
+            record {
+              there = omega (arith, p .starts);
+              small = omega (arith, p .small);
+              spans = record { lo = w; hi = rw (p .hi) w; local = rw (p .local) w };
+            };
+      }
+
+module _ (e : Bool) (m : Columns) (dof len chunks : ℕ) (s : Spread) (t : Bool) (call : t ≡ startsOut chunks (s .starts) (length (s .lo))) where
+  pub plan-falls : (n : ℕ) → t ≡ true → n ≡ sideNumber e → tell 13 (n ∷ []) ≡ planTold e m dof len chunks s
+  unfolding planTold planBad startsBad startsOut
+  plan-falls n q p = rw (sym call ∙ q, p)
+
+  module _ (q : t ≡ false) (u : Bool) (chunk : u ≡ some (chunkBad m dof len s) 0 chunks) where
+    pub plan-out : (n : ℕ) → u ≡ true → n ≡ sideNumber e → tell 13 (n ∷ []) ≡ planTold e m dof len chunks s
+    unfolding planTold planBad startsBad startsOut
+    plan-out n z p = rw (sym call ∙ q, ← chunk, z, p)
+
+    pub plan-done : u ≡ false → done ≡ planTold e m dof len chunks s
+    unfolding planTold planBad startsBad startsOut
+    plan-done z = rw (sym call ∙ q, ← chunk, z)
+
+pub ruleset planning = (
+  needs,
+  by-call,
+  some-goes,
+  some-stops,
+  some-ends,
+  some-turn,
+  some-done,
+  or-of,
+  row-is-out,
+  span-back,
+  span-past,
+  span-local,
+  span-rows,
+  span-told,
+  chunk-told,
+  chunk-spans,
+  chunk-at,
+  start-falls,
+  starts-first,
+  starts-fall,
+  starts-end,
+  plan-starts,
+  plan-chunks,
+  plan-falls,
+  plan-out,
+  plan-done,
+)

@@ -1,0 +1,64 @@
+-- Refusal 13 as src/plan_check.rt finds it, and what its functions ask. Assumes nothing.
+use mathlib.Core.Path.{_≡_}
+use mathlib.Core.Bool.{Bool, not, _||_, cond}
+use mathlib.Core.List.{List, [], _∷_}
+use Prim.Native.Nat.{ℕ, _+_, _*_, _≤_, _<_}
+use lib.Dec.{eqb, leb, ltb}
+use lib.ListN.{length, getD}
+use Rattle.ground.specs.First.{some}
+use Rattle.columns.specs.Refusals.{Told, tell, done}
+use Rattle.columns.specs.Columns.{Columns, columnsOf, falls}
+use Rattle.plan.specs.Spans.{Spread}
+use Rattle.products.specs.Orders.{planBad}
+
+-- columns of which the rows alone count
+abbrev pub rowsOnly : List ℕ → Columns
+rowsOnly rows = columnsOf 0 [] rows []
+
+-- the row at place p is below `from`, or `end` or more
+unfoldable pub rowOut : List ℕ → ℕ → ℕ → ℕ → Bool
+rowOut rows from end p = ltb (getD rows p 0) from || leb end (getD rows p 0)
+
+-- a span from a to b with local number l is bad, in a chunk of rows `from` up to `end`; span k of a list is
+unfoldable pub spanOut : List ℕ → ℕ → ℕ → ℕ → ℕ → ℕ → ℕ → Bool
+spanOut rows from end dof a b l = ltb b a || (ltb (length rows) b || (leb dof l || some (rowOut rows from end) a b))
+
+unfoldable pub spanOutAt : List ℕ → ℕ → ℕ → ℕ → List ℕ → List ℕ → List ℕ → ℕ → Bool
+spanOutAt rows from end dof lo hi local k = spanOut rows from end dof (getD lo k 0) (getD hi k 0) (getD local k 0)
+
+-- the starts do not rise from 0 to n without falling
+unfoldable pub startsOut : ℕ → List ℕ → ℕ → Bool
+startsOut chunks starts n = not (eqb (getD starts 0 0) 0) || (some (falls starts) 0 chunks || not (eqb (getD starts chunks 0) n))
+
+-- 13 with the side
+unfoldable pub planTold : Bool → Columns → ℕ → ℕ → ℕ → Spread → Told
+planTold e m dof len chunks s = cond (planBad m dof len chunks s) (tell 13 (cond e 1 0 ∷ [])) done
+
+-- ---- what its functions ask
+
+-- n starts are one for each chunk, and one more
+pub record StartsThere (n chunks : ℕ) : Type 0 where
+  pub there : chunks < n
+
+-- spans before `last` are there
+pub record SpansThere (nlo nhi nlocal last : ℕ) : Type 0 where
+  pub lo : last ≤ nlo
+  pub hi : last ≤ nhi
+  pub local : last ≤ nlocal
+
+-- so are those of chunk c, and its end is a list number
+pub record ChunkThere (len : ℕ) (starts : List ℕ) (nlo nhi nlocal c : ℕ) : Type 0 where
+  pub there : c + 1 < length starts
+  pub small : c * len + len ≤ 4_294_967_295
+  pub spans : SpansThere nlo nhi nlocal (getD starts (c + 1) 0)
+
+-- so are those of each chunk
+pub record ChunksThere (len chunks : ℕ) (starts : List ℕ) (nlo nhi nlocal : ℕ) : Type 0 where
+  pub each : (c : ℕ) → c < chunks → ChunkThere len starts nlo nhi nlocal c
+
+-- a plan's lists have their lengths, and its chunks end at a list number
+pub record PlanThere (len chunks nstarts nlo nhi nlocal : ℕ) : Type 0 where
+  pub starts : nstarts ≡ chunks + 1
+  pub hi : nhi ≡ nlo
+  pub local : nlocal ≡ nlo
+  pub small : chunks * len ≤ 4_294_967_295
