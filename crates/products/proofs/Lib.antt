@@ -7,4 +7,5 @@ pub mod PlanRules
 pub mod OrderRules
 pub mod SweepRules
 pub mod StepRules
+pub mod OperatorRules
 pub mod Cases

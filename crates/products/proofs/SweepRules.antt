@@ -196,7 +196,7 @@ pub few-chunks : (nrows len chunks : ℕ) → Chunked nrows len → chunks ≡ c
 unfolding chunkCount
 few-chunks nrows len chunks c e = rw e (le-trans (div-le-self (nrows + (len - 1)) len) (omega (arith, c .few-len, c .few-rows)))
 
-small-end : (nrows len : ℕ) → Chunked nrows len → chunkCount nrows len * len ≤ 4_294_967_295
+pub small-end : (nrows len : ℕ) → Chunked nrows len → chunkCount nrows len * len ≤ 4_294_967_295
 unfolding chunkCount
 small-end nrows len c = le-trans (div-mul-le-self (nrows + (len - 1)) len) (omega (arith, c .few-len, c .few-rows))
 
@@ -220,7 +220,7 @@ module _ (e : Bool) (nrows : ℕ) (m : Columns) (dof len nv : ℕ) (s : Spread) 
   lent-plan t q p = p ∙ rw (← wrong-is, q, count) (sym (or-done _))
 
 -- the plan's check looks at the rows alone
-plan-told-is : (e : Bool) (m : Columns) (side : List ℕ) (len : ℕ) (s : Spread) → planTold e (rowsOnly (m .rows)) (sideDof side) len (chunkCount (m .nrows) len) s ≡ badPlan e m side len s
+pub plan-told-is : (e : Bool) (m : Columns) (side : List ℕ) (len : ℕ) (s : Spread) → planTold e (rowsOnly (m .rows)) (sideDof side) len (chunkCount (m .nrows) len) s ≡ badPlan e m side len s
 unfolding planTold badPlan planBad chunkBad spanBad entryOut
 plan-told-is e m side len s = refl
 

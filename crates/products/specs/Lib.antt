@@ -8,3 +8,4 @@ pub mod PlanCheck
 pub mod OrderWalk
 pub mod SweepCheck
 pub mod Operator
+pub mod OperatorCalls

@@ -61,28 +61,54 @@ pub record Work : Type 0 where
   pub u : List Float
   pub out : List Float
 
--- d is right where it is empty or as long as the kept dof
-abbrev pub dampLength : List Float → ℕ → ℕ
-dampLength d dof = cond (eqb (length d) 0) dof (length d)
+-- d, of n entries, is right where it is empty or as long as the kept dof
+unfoldable pub dampLength : ℕ → ℕ → ℕ
+dampLength n dof = cond (eqb n 0) dof n
 
-abbrev pub planLengths : Columns → ℕ → Spread → List ℕ → List ℕ
-planLengths m len s rest =
-    length (s .starts) ∷ (chunkCount (m .nrows) len + 1)
+abbrev pub planLengths : ℕ → Spread → List ℕ → List ℕ
+planLengths chunks s rest =
+    length (s .starts) ∷ (chunks + 1)
     ∷ length (s .lo) ∷ length (s .lo)
     ∷ length (s .hi) ∷ length (s .lo)
     ∷ length (s .local) ∷ length (s .lo) ∷ rest
 
+-- how long v, inverses, d, rows, t, u and out are
+pub record Sizes : Type 0 where
+  pub v : ℕ
+  pub inverses : ℕ
+  pub d : ℕ
+  pub rows : ℕ
+  pub t : ℕ
+  pub u : ℕ
+  pub out : ℕ
+
+abbrev pub sizesOf : Operands → Work → Sizes
+sizesOf o w = record {
+  v = length (o .v);
+  inverses = length (o .inverses);
+  d = length (o .d);
+  rows = length (w .rows);
+  t = length (w .t);
+  u = length (w .u);
+  out = length (w .out);
+}
+
+-- the pairs, for that many rows and chunks, the two dofs and the count of the inverses' values
+abbrev pub operatorPairs : ℕ → ℕ → ℕ → ℕ → ℕ → Sizes → Spread → Spread → List ℕ
+operatorPairs nrows chunks keptDof elimsDof count z kept elims =
+    z .v ∷ keptDof
+    ∷ z .inverses ∷ count
+    ∷ dampLength (z .d) keptDof ∷ keptDof
+    ∷ planLengths chunks kept
+    (planLengths chunks elims
+    (z .rows ∷ nrows
+    ∷ z .t ∷ elimsDof
+    ∷ z .u ∷ elimsDof
+    ∷ z .out ∷ keptDof ∷ []))
+
 unfoldable pub operatorLengths : Columns → List ℕ → List ℕ → ℕ → Operands → Work → List ℕ
 operatorLengths m kept elims len o w =
-    length (o .v) ∷ sideDof kept
-    ∷ length (o .inverses) ∷ valueCount elims
-    ∷ dampLength (o .d) (sideDof kept) ∷ sideDof kept
-    ∷ planLengths m len (o .kept)
-    (planLengths m len (o .elims)
-    (length (w .rows) ∷ m .nrows
-    ∷ length (w .t) ∷ sideDof elims
-    ∷ length (w .u) ∷ sideDof elims
-    ∷ length (w .out) ∷ sideDof kept ∷ []))
+    operatorPairs (m .nrows) (chunkCount (m .nrows) len) (sideDof kept) (sideDof elims) (valueCount elims) (sizesOf o w) (o .kept) (o .elims)
 
 -- 1 to 9, 11 and 13, kept first
 abbrev pub operatorTold : Columns → List ℕ → List ℕ → ℕ → List ℕ → Operands → Work → Told

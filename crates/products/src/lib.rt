@@ -2,6 +2,7 @@
 pub mod coupling;
 mod side_sums;
 pub mod update;
+pub mod operator;
 pub mod order;
 pub mod plan_check;
 pub mod side;
