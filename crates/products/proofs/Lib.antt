@@ -4,3 +4,4 @@ pub mod InverseRules
 pub mod LentRules
 pub mod UpdateLaws
 pub mod Cases
+pub mod Determined
