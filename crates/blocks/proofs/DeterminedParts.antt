@@ -37,6 +37,7 @@ use Rattle.blocks.proofs.eliminated_blocks.block_place.Reads as places
 use Rattle.blocks.proofs.eliminated_blocks.block.Reads as blocks
 use Rattle.blocks.proofs.eliminated_blocks.dof.Reads as dofs
 use Rattle.blocks.proofs.eliminated_blocks.at.Reads as entries
+use Rattle.blocks.proofs.eliminated_blocks.count_values.Reads as counts
 use Rattle.blocks.proofs.eliminated_blocks.gather_from_jacobian.Reads as gathers
 use Rattle.blocks.proofs.eliminated_blocks.damp.Reads as damps
 
@@ -90,6 +91,9 @@ dof κs a s t p q = named _ p q
 
 pub at : (κs : Lfts 2) (a : _) (s t : _) (p q : Entry) → entries.Post κs a p s → entries.Post κs a q t → p ≡ q
 at κs a s t p q = named _ p q
+
+pub count-values : (κs : Lfts 1) (a : _) (s t : _) (p q : ℕ) → counts.Post κs a p s → counts.Post κs a q t → p ≡ q
+count-values κs a s t p q = named _ p q
 
 -- an answer, with the map and the block values that the call leaves
 abbrev Outcome : Type 0

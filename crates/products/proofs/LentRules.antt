@@ -60,7 +60,16 @@ module _ (pairs : List ℕ) (n : ℕ) (map : List ℕ) (a : Answer) (e : told a 
   unfolding checkLengths onPass
   lengths-done p = let t : wrongLength pairs ≡ done = sym e ∙ ap told p in rw t
 
--- ---- columns and blocks, then lengths: a is what `check_blocks` answered, and left the map that it left
+-- ---- columns and blocks, then lengths
+
+-- what a call knows once they have passed, where `end` is the map that they left
+pub record LentPassed (m : Columns) (kept elims map pairs end : List ℕ) : Type 0 where
+  pub keep : BlocksKeep m kept elims map
+  pub lengths : Passes (wrongLength pairs)
+  pub filled : end ≡ mapOn (columnCount m) kept elims (drop (columnCount m) map)
+  pub told : record { told = done; map = end } ≡ lent m kept elims map pairs
+
+-- a is what `check_blocks` answered, and left the map that it left
 
 module _ (m : Columns) (kept elims map : List ℕ) (a : Answer) (left : List ℕ) (e : record { told = told a; map = left } ≡ checkBlocks m kept elims map) where
   pub first-refused : (pairs : List ℕ) (r : Refusal) → a ≡ Refused r → record { told = refused r; map = left } ≡ lent m kept elims map pairs
@@ -108,17 +117,19 @@ module _ (m : Columns) (kept elims map : List ℕ) (a : Answer) (left : List ℕ
         end-left : end ≡ left
         end-left = (rw z at end-is) ∙ pass-done done left (marked (columnCount m) left) refl
 
-        pub then-done : record { told = done; map = end } ≡ lent m kept elims map pairs
-        then-done =
+        then-told : record { told = done; map = end } ≡ lent m kept elims map pairs
+        then-told =
             let t : lentTold m kept elims map pairs ≡ done = sym all-told ∙ ap told z in
             let u : end ≡ mapLeft done m kept elims map = end-left ∙ (rw blocks-done at (blocks-map m kept elims map (told a) left e)) in
             rw (t, u)
 
-        pub then-lengths : Passes (wrongLength pairs)
-        then-lengths = ap (λ (t : Told). t .number) (sym lengths-told) ∙ ap (λ (b : Answer). told b .number) z
-
-        pub then-map : end ≡ mapOn (columnCount m) kept elims (drop (columnCount m) map)
-        then-map = end-left ∙ blocks-mapped m kept elims map (told a) left e passes
+        pub then-passes : LentPassed m kept elims map pairs end
+        then-passes = record {
+          keep = first-keep;
+          lengths = ap (λ (t : Told). t .number) (sym lengths-told) ∙ ap (λ (b : Answer). told b .number) z;
+          filled = end-left ∙ blocks-mapped m kept elims map (told a) left e passes;
+          told = then-told;
+        }
 
 -- ---- what a call then leaves in its result
 
@@ -130,12 +141,11 @@ module _ (m : Columns) (kept elims map pairs left : List ℕ) where
       let u : left ≡ mapLeft (lentTold m kept elims map pairs) m kept elims map = ap (λ (o : Mapped). o .map) e in
       rw (u, ← t, pass-refused r new old)
 
-  pub made-done : (new old next : List Float) → record { told = done; map = left } ≡ lent m kept elims map pairs → next ≡ new
-      → record { told = done; map = left; out = next } ≡ made m kept elims map pairs new old
+  pub made-done : (new old next : List Float) → LentPassed m kept elims map pairs left → next ≡ new → record { told = done; map = left; out = next } ≡ made m kept elims map pairs new old
   unfolding onPass
-  made-done new old next e q =
-      let t : done ≡ lentTold m kept elims map pairs = ap (λ (o : Mapped). o .told) e in
-      let u : left ≡ mapLeft (lentTold m kept elims map pairs) m kept elims map = ap (λ (o : Mapped). o .map) e in
+  made-done new old next g q =
+      let t : done ≡ lentTold m kept elims map pairs = ap (λ (o : Mapped). o .told) (g .told) in
+      let u : left ≡ mapLeft (lentTold m kept elims map pairs) m kept elims map = ap (λ (o : Mapped). o .map) (g .told) in
       rw (u, ← t, q)
 
 -- ---- what the checks give the work
@@ -208,23 +218,23 @@ module _ (e : Bool) (m : Columns) (kept elims map : List ℕ) (v rows out : List
         pass-refused r (sideGather zero₊ m (sideOf (not e) kept elims) (coupledRows m (sideOf e kept elims) v)) out,
       )
 
-  module _ (g : BlocksKeep m kept elims map) (p : Passes (wrongLength pairs)) where
+  module _ (left : List ℕ) (g : LentPassed m kept elims map pairs left) where
     pub coupling-fits : CouplingFits (columnsOf (length rows) (m .ptrs) (m .rows) (m .values)) (sideOf e kept elims) (sideOf (not e) kept elims) (length v) (length out)
     coupling-fits =
-        let r = lengths-right pairs p in
+        let r = lengths-right pairs (g .lengths) in
         record {
-          swept = side-fits m kept elims map g e (length v) (length rows) (r 1 (omega arith)) (r 0 (omega arith));
-          gathered = side-fits m kept elims map g (not e) (length out) (length rows) (r 1 (omega arith)) (r 2 (omega arith));
+          swept = side-fits m kept elims map (g .keep) e (length v) (length rows) (r 1 (omega arith)) (r 0 (omega arith));
+          gathered = side-fits m kept elims map (g .keep) (not e) (length out) (length rows) (r 1 (omega arith)) (r 2 (omega arith));
         }
 
-    pub coupling-done : (left : List ℕ) (y next : List Float) → record { told = done; map = left } ≡ lent m kept elims map pairs
+    pub coupling-done : (y next : List Float)
         → record { rows = y; out = next } ≡ coupled (columnsOf (length rows) (m .ptrs) (m .rows) (m .values)) (sideOf e kept elims) (sideOf (not e) kept elims) v
         → record { told = done; map = left; rows = y; out = next } ≡ coupling e m kept elims map v rows out
     unfolding coupling coupled onPass
-    coupling-done left y next q w =
-        let n : length rows ≡ m .nrows = lengths-right pairs p 1 (omega arith) in
-        let t : done ≡ lentTold m kept elims map pairs = ap (λ (o : Mapped). o .told) q in
-        let u : left ≡ mapLeft (lentTold m kept elims map pairs) m kept elims map = ap (λ (o : Mapped). o .map) q in
+    coupling-done y next w =
+        let n : length rows ≡ m .nrows = lengths-right pairs (g .lengths) 1 (omega arith) in
+        let t : done ≡ lentTold m kept elims map pairs = ap (λ (o : Mapped). o .told) (g .told) in
+        let u : left ≡ mapLeft (lentTold m kept elims map pairs) m kept elims map = ap (λ (o : Mapped). o .map) (g .told) in
         let a : y ≡ coupledRows m (sideOf e kept elims) v = rw n at (ap (λ (o : Pair). o .rows) w) in
         let b : next ≡ sideGather zero₊ m (sideOf (not e) kept elims) (coupledRows m (sideOf e kept elims) v) = rw n at (ap (λ (o : Pair). o .out) w) in
         rw (u, ← t, a, b)
@@ -255,9 +265,9 @@ pub update-lengths : (kept elims : List ℕ) (xk xe out : List Float) (d k n cou
 update-lengths kept elims xk xe out d k n count p q r = rw (p, q, r)
 
 -- end is the map as the checks left it
-module _ (m : Columns) (kept elims map : List ℕ) (xk xe out : List Float) (g : BlocksKeep m kept elims map) (p : Passes (wrongLength (updateLengths m kept elims xk xe out))) (end : List ℕ) (filled : end ≡ mapOn (columnCount m) kept elims (drop (columnCount m) map)) where
+module _ (m : Columns) (kept elims map : List ℕ) (xk xe out : List Float) (end : List ℕ) (g : LentPassed m kept elims map (updateLengths m kept elims xk xe out) end) where
   rights : (length xk ≡ sideDof kept) × (length xe ≡ sideDof elims) × (length out ≡ columnCount m)
-  rights = let r = lengths-right (updateLengths m kept elims xk xe out) p in (r 0 (omega arith), r 1 (omega arith), r 2 (omega arith))
+  rights = let r = lengths-right (updateLengths m kept elims xk xe out) (g .lengths) in (r 0 (omega arith), r 1 (omega arith), r 2 (omega arith))
 
   pub updates-fit : UpdatesFit end (length xk) (length xe) (length out)
   updates-fit =
@@ -269,14 +279,14 @@ module _ (m : Columns) (kept elims map : List ℕ) (xk xe out : List Float) (g :
               there =
                   let a = length-append (listOf (placeOf (claims (columnCount m) kept elims)) (columnCount m)) (drop (columnCount m) map) in
                   let b = length-listOf (placeOf (claims (columnCount m) kept elims)) 0 (columnCount m) in
-                  rw filled (omega arith);
-              entry = rw (filled, r .0, r .1) (map-below (columnCount m) kept elims (drop (columnCount m) map) (g .parted) c h);
+                  rw (g .filled) (omega arith);
+              entry = rw (g .filled, r .0, r .1) (map-below (columnCount m) kept elims (drop (columnCount m) map) (g .keep .parted) c h);
             };
       }
 
   update-same : (c : ℕ) → c < columnCount m → updateBy end xk xe c ≡ updateAt (columnCount m) kept elims xk xe c
   unfolding updateBy updateAt
-  update-same c h = rw (filled, map-place (columnCount m) kept elims (drop (columnCount m) map) (g .parted) c h, rights .0)
+  update-same c h = rw (g .filled, map-place (columnCount m) kept elims (drop (columnCount m) map) (g .keep .parted) c h, rights .0)
 
   pub update-done : (next : List Float) → next ≡ listOf (updateBy end xk xe) (length out) → next ≡ listOf (updateAt (columnCount m) kept elims xk xe) (columnCount m)
   update-done next e = (rw (rights .2) at e) ∙ listOf-same nan (updateBy end xk xe) (updateAt (columnCount m) kept elims xk xe) (columnCount m) update-same

@@ -9,3 +9,4 @@ pub mod SweepRules
 pub mod StepRules
 pub mod OperatorRules
 pub mod Cases
+pub mod Determined

@@ -18,10 +18,12 @@ use Rattle.columns.proofs.RefusalLaws.{pass-done, both-pass}
 use Rattle.blocks.specs.declared.partition.Number.the-variants.{Is, Nothing}
 use Rattle.blocks.specs.Sides.{cols, offsetOf, sideDof, HasAt, sideOf}
 use Rattle.blocks.specs.Claims.{claims, placeOf, blocksTold, Parted, BlocksKeep}
-use Rattle.blocks.specs.Lookups.{localIn}
+use Rattle.blocks.specs.declared.partition.Within.the-variants as within
+use Rattle.blocks.specs.Lookups.{localIn, withinIn}
 use Rattle.blocks.proofs.SideLaws.{local-low, cols-from}
 use Rattle.blocks.proofs.PartLaws.{placeIn, parted-place, passes-parted}
 use Rattle.blocks.proofs.MapLaws.{mapOn, map-place}
+use Rattle.blocks.proofs.LookupLaws.{localOf, within-local}
 use Rattle.blocks.proofs.LookupMap.{kept-map, elims-map}
 use Rattle.products.specs.Couplings.{lentTold, updateAt, updateLengths, combineUpdates}
 
@@ -83,6 +85,11 @@ module _ (n : ℕ) (kept elims : List ℕ) (p : Parted n kept elims) (xk xe : Li
             → cond b (getD xk (placeOf (claims n kept elims) c) nan) (getD xe (placeOf (claims n kept elims) c - sideDof kept) nan) ≡ getD xe l nan
         go true q = let z : _≡_ {A = ℕ} 0 1 = cc q in absurd (omega arith)
         go false q = let s : placeOf (claims n kept elims) c - sideDof kept ≡ l = cc q in rw s
+
+  -- and where it finds the eliminated block and the offset there
+  pub update-within : (c b i : ℕ) → c < n → withinIn elims c ≡ within.At b i → updateAt n kept elims xk xe c ≡ getD xe (offsetOf elims b + i) nan
+  unfolding localOf
+  update-within c b i h e = update-elims-lookup c (offsetOf elims b + i) h (within-local elims c ∙ ap (localOf elims) e)
 
 -- ---- a call that passed
 

@@ -1,5 +1,5 @@
-// The calls that need no plan and carry a vector from one side to the other: the block inverses times a vector, and the coupling products
-// `EᵀF` and `FᵀE`, which are never formed. Each checks what it is lent, and a refused call leaves its results as they were.
+// The calls that need no plan and take a vector from one side to the other: the block inverses times a vector, and the coupling products
+// `FᵀE` and `EᵀF` times one, which are never formed. Each checks what it is lent, and a refused call leaves its results as they were.
 use crate::side_sums::gather_side;
 use crate::side_sums::inverse_times;
 use crate::side_sums::side_dof;

@@ -2,7 +2,7 @@
 use mathlib.Core.Bool.{true}
 use Rattle.blocks.proofs.ValueCalls.{limited-of}
 use Rattle.products.specs.Couplings.{applyEliminatedInverse}
-use Rattle.products.proofs.LentRules.{first-refused, first-keep, then-refused, then-done, then-lengths, made-refused, made-done, dofs-fit, inverse-lengths, inverses-fit, lending}
+use Rattle.products.proofs.LentRules.{first-refused, first-keep, then-refused, then-passes, made-refused, made-done, dofs-fit, inverse-lengths, inverses-fit, lending}
 use Rattle.products.proofs.coupling.apply_eliminated_inverse.Statement.{statement}
 use Rattle.products.proofs.coupling.apply_eliminated_inverse.Tie as tie
 
@@ -45,7 +45,8 @@ inverse-times-requires c κs =
     let e = d .before in
     let k = e .before .before .before .before in
     let s = k .before .before .before .before .before .before .before .before .before .before .before in
-    inverses-fit _ (s .args .b .now) (s .args .inverses .now) (s .args .out .now) (then-lengths _ _ _ _ (k .check-blocks .result) _ (k .check-blocks .ensures) (e .enum-told .given .1) (l .check-lengths .result) _ _ (n .column-count .ensures) _ _ (inverse-lengths _ (s .args .b .now) (s .args .inverses .now) (s .args .out .now) _ _ (d .side-dof .ensures) (v .count-values .ensures)) (l .check-lengths .ensures) (c .before .enum-told2 .given .1))
+    let g = then-passes _ _ _ _ (k .check-blocks .result) _ (k .check-blocks .ensures) (e .enum-told .given .1) (l .check-lengths .result) _ _ (n .column-count .ensures) _ _ (inverse-lengths _ (s .args .b .now) (s .args .inverses .now) (s .args .out .now) _ _ (d .side-dof .ensures) (v .count-values .ensures)) (l .check-lengths .ensures) (c .before .enum-told2 .given .1) in
+    inverses-fit _ (s .args .b .now) (s .args .inverses .now) (s .args .out .now) (g .lengths)
 
 returns-3 : tie.Need-returns-3
 unfolding applyEliminatedInverse
@@ -57,7 +58,8 @@ returns-3 c =
     let e = d .before in
     let k = e .before .before .before .before in
     let s = k .before .before .before .before .before .before .before .before .before .before .before in
-    made-done _ _ _ _ _ _ _ _ _ (then-done _ _ _ _ (k .check-blocks .result) _ (k .check-blocks .ensures) (e .enum-told .given .1) (l .check-lengths .result) _ _ (n .column-count .ensures) _ _ (inverse-lengths _ (s .args .b .now) (s .args .inverses .now) (s .args .out .now) _ _ (d .side-dof .ensures) (v .count-values .ensures)) (l .check-lengths .ensures) (c .before .before .before .before .enum-told2 .given .1)) (c .before .before .inverse-times .ensures)
+    let g = then-passes _ _ _ _ (k .check-blocks .result) _ (k .check-blocks .ensures) (e .enum-told .given .1) (l .check-lengths .result) _ _ (n .column-count .ensures) _ _ (inverse-lengths _ (s .args .b .now) (s .args .inverses .now) (s .args .out .now) _ _ (d .side-dof .ensures) (v .count-values .ensures)) (l .check-lengths .ensures) (c .before .before .before .before .enum-told2 .given .1) in
+    made-done _ _ _ _ _ _ _ _ _ g (c .before .before .inverse-times .ensures)
 
 pub apply-eliminated-inverse-spec : {M : Type 1} → statement M
 apply-eliminated-inverse-spec =

@@ -1,7 +1,7 @@
 -- `products::update::combine_updates` meets its contract. Assumes nothing.
 use mathlib.Core.Bool.{true, false}
 use Rattle.products.specs.Couplings.{combineUpdates}
-use Rattle.products.proofs.LentRules.{first-refused, first-keep, then-refused, then-done, then-lengths, then-map, made-refused, made-done, dofs-fit, update-lengths, updates-fit, update-done, lending}
+use Rattle.products.proofs.LentRules.{first-refused, first-keep, then-refused, then-passes, made-refused, made-done, dofs-fit, update-lengths, updates-fit, update-done, lending}
 use Rattle.products.proofs.update.combine_updates.Statement.{statement}
 use Rattle.products.proofs.update.combine_updates.Tie as tie
 
@@ -44,8 +44,8 @@ put-updates-requires c κs =
     let e = n .before in
     let k = e .before .before .before .before in
     let s = k .before .before .before .before .before .before .before .before .before .before .before in
-    let q = c .before .before .enum-told2 .given .1 in
-    updates-fit _ _ _ _ (s .args .kept-update .now) (s .args .elims-update .now) (s .args .out .now) (first-keep _ _ _ _ (k .check-blocks .result) _ (k .check-blocks .ensures) (e .enum-told .given .1)) (then-lengths _ _ _ _ (k .check-blocks .result) _ (k .check-blocks .ensures) (e .enum-told .given .1) (l .check-lengths .result) _ _ (n .column-count .ensures) _ _ (update-lengths _ _ (s .args .kept-update .now) (s .args .elims-update .now) (s .args .out .now) _ _ _ _ (d .side-dof .ensures) (t .side-dof2 .ensures) (n .column-count .ensures)) (l .check-lengths .ensures) q) _ (then-map _ _ _ _ (k .check-blocks .result) _ (k .check-blocks .ensures) (e .enum-told .given .1) (l .check-lengths .result) _ _ (n .column-count .ensures) _ _ (update-lengths _ _ (s .args .kept-update .now) (s .args .elims-update .now) (s .args .out .now) _ _ _ _ (d .side-dof .ensures) (t .side-dof2 .ensures) (n .column-count .ensures)) (l .check-lengths .ensures) q)
+    let g = then-passes _ _ _ _ (k .check-blocks .result) _ (k .check-blocks .ensures) (e .enum-told .given .1) (l .check-lengths .result) _ _ (n .column-count .ensures) _ _ (update-lengths _ _ (s .args .kept-update .now) (s .args .elims-update .now) (s .args .out .now) _ _ _ _ (d .side-dof .ensures) (t .side-dof2 .ensures) (n .column-count .ensures)) (l .check-lengths .ensures) (c .before .before .enum-told2 .given .1) in
+    updates-fit _ _ _ _ (s .args .kept-update .now) (s .args .elims-update .now) (s .args .out .now) _ g
 
 returns-3 : tie.Need-returns-3
 unfolding combineUpdates
@@ -57,8 +57,8 @@ returns-3 c =
     let e = n .before in
     let k = e .before .before .before .before in
     let s = k .before .before .before .before .before .before .before .before .before .before .before in
-    let q = c .before .before .before .before .before .enum-told2 .given .1 in
-    made-done _ _ _ _ _ _ _ _ _ (then-done _ _ _ _ (k .check-blocks .result) _ (k .check-blocks .ensures) (e .enum-told .given .1) (l .check-lengths .result) _ _ (n .column-count .ensures) _ _ (update-lengths _ _ (s .args .kept-update .now) (s .args .elims-update .now) (s .args .out .now) _ _ _ _ (d .side-dof .ensures) (t .side-dof2 .ensures) (n .column-count .ensures)) (l .check-lengths .ensures) q) (update-done _ _ _ _ (s .args .kept-update .now) (s .args .elims-update .now) (s .args .out .now) (first-keep _ _ _ _ (k .check-blocks .result) _ (k .check-blocks .ensures) (e .enum-told .given .1)) (then-lengths _ _ _ _ (k .check-blocks .result) _ (k .check-blocks .ensures) (e .enum-told .given .1) (l .check-lengths .result) _ _ (n .column-count .ensures) _ _ (update-lengths _ _ (s .args .kept-update .now) (s .args .elims-update .now) (s .args .out .now) _ _ _ _ (d .side-dof .ensures) (t .side-dof2 .ensures) (n .column-count .ensures)) (l .check-lengths .ensures) q) _ (then-map _ _ _ _ (k .check-blocks .result) _ (k .check-blocks .ensures) (e .enum-told .given .1) (l .check-lengths .result) _ _ (n .column-count .ensures) _ _ (update-lengths _ _ (s .args .kept-update .now) (s .args .elims-update .now) (s .args .out .now) _ _ _ _ (d .side-dof .ensures) (t .side-dof2 .ensures) (n .column-count .ensures)) (l .check-lengths .ensures) q) _ (c .before .before .put-updates .ensures))
+    let g = then-passes _ _ _ _ (k .check-blocks .result) _ (k .check-blocks .ensures) (e .enum-told .given .1) (l .check-lengths .result) _ _ (n .column-count .ensures) _ _ (update-lengths _ _ (s .args .kept-update .now) (s .args .elims-update .now) (s .args .out .now) _ _ _ _ (d .side-dof .ensures) (t .side-dof2 .ensures) (n .column-count .ensures)) (l .check-lengths .ensures) (c .before .before .before .before .before .enum-told2 .given .1) in
+    made-done _ _ _ _ _ _ _ _ _ g (update-done _ _ _ _ (s .args .kept-update .now) (s .args .elims-update .now) (s .args .out .now) _ g _ (c .before .before .put-updates .ensures))
 
 pub combine-updates-spec : {M : Type 1} → statement M
 combine-updates-spec =
