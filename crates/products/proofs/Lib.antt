@@ -3,3 +3,4 @@ pub mod PlanRules
 pub mod OrderRules
 pub mod SweepRules
 pub mod StepRules
+pub mod StepLaws

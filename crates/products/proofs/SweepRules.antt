@@ -318,6 +318,12 @@ module _ (e : Bool) (m : Columns) (kept elims : List ℕ) (len : ℕ) (map : Lis
   pub checked-chunks : Chunks m kept elims len
   checked-chunks = chunks-of m kept elims len map (all-pass .0) (all-pass .1)
 
+  pub checked-room : columnCount m ≤ length map
+  checked-room =
+      let a = parts-passes m kept elims (orElse (chunkTold len) (noRoom (length map ∷ columnCount m ∷ []))) (all-pass .0) in
+      let b = both-pass (chunkTold len) (noRoom (length map ∷ columnCount m ∷ [])) (a .3) in
+      room-right (length map ∷ columnCount m ∷ []) (b .1) 0 (omega arith)
+
   lengths : (k : ℕ) → k < 7 → getD pairs (k + k) 0 ≡ getD pairs (k + k + 1) 0
   lengths k h = lengths-right pairs (all-pass .2) k h
 

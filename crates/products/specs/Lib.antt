@@ -5,3 +5,4 @@ pub mod Side
 pub mod PlanCheck
 pub mod OrderWalk
 pub mod SweepCheck
+pub mod Steps
