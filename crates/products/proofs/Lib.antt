@@ -4,3 +4,4 @@ pub mod OrderRules
 pub mod SweepRules
 pub mod StepRules
 pub mod StepLaws
+pub mod Determined

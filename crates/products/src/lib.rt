@@ -1,6 +1,6 @@
 // Products over columns, blocks and a plan.
 pub mod order;
-pub mod plan_check;
+mod plan_check;
 pub mod side;
-pub mod spans_sweep;
-pub mod sweep_check;
+mod spans_sweep;
+mod sweep_check;
