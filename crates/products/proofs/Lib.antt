@@ -5,3 +5,4 @@ pub mod SweepRules
 pub mod StepRules
 pub mod StepLaws
 pub mod Determined
+pub mod SweepCarried

@@ -13,26 +13,27 @@ use lib.ListN.{length, getD, set, drop, replicate, length-append, length-drop, l
 use lib.Seq.{drop-at, getD-set-other}
 use lib.Ieee.{Float, nan, eq}
 use Rattle.ground.specs.Gather.{gather, listOf}
-use Rattle.ground.specs.Fold.{folded, All}
+use Rattle.ground.specs.Fold.{All}
 use Rattle.ground.proofs.GatherLaws.{gather-none, gather-last, length-listOf, getD-listOf}
 use Rattle.ground.proofs.FoldLaws.{folded-none, folded-append}
 use Rattle.ground.proofs.EachLaws.{all-gather}
 use Rattle.ground.proofs.ListLaws.{listOf-all}
 use Rattle.columns.specs.declared.unchecked.Sign.{Sign}
-use Rattle.columns.specs.Refusals.{Told, done, Passes, onPass, orElse}
+use Rattle.columns.specs.Refusals.{Told, tell, done, Passes, onPass, orElse}
 use Rattle.columns.specs.Columns.{Columns, columnCount}
 use Rattle.columns.specs.Sums.{zero₊, RowTerm, landed, sweptOn}
 use Rattle.columns.specs.JacobianOps.{landing, landings}
 use Rattle.columns.proofs.RefusalLaws.{pass-done, both-pass}
-use Rattle.columns.proofs.SumLaws.{length-swept}
+use Rattle.columns.proofs.SumLaws.{length-swept, swept-other}
 use Rattle.blocks.specs.Claims.{claims, placeOf}
-use Rattle.plan.specs.Spans.{chunkCount, Spread}
+use borrow.Author.Tests.{eqb-true}
+use Rattle.plan.specs.Spans.{chunkCount, inChunk, Spread}
 use Rattle.products.specs.Orders.{spanTerms, spanCount, served, hasNext, badOrder, orderTerms, signOf, earlyChunked, sweepTold, Swept, stepOrder, stepTold, stepOf, startRows, sweepOf}
 use Rattle.products.specs.OrderWalk.{counts, Work, stepped, placeTerms, ranTo}
 use Rattle.products.specs.SweepCheck.{checksTold, chunkedLeft}
 use Rattle.products.specs.Steps.{stepsOf, After}
-use Rattle.products.proofs.OrderRules.{counts-next, counts-zero, next-there}
-use Rattle.products.proofs.SweepRules.{left-done, all-pass, checked-progress, checked-room}
+use Rattle.products.proofs.OrderRules.{counts-next, next-there}
+use Rattle.products.proofs.SweepRules.{left-done, all-pass, checked-progress, checked-room, checked-in-chunk}
 use Rattle.products.proofs.StepRules.{told-is, place-next, counts-all}
 
 -- ---- the loop's own steps
@@ -203,15 +204,14 @@ module _ (e : Bool) (m : Columns) (kept elims : List ℕ) (len : ℕ) (map : Lis
       (ap (λ (t : Told). chunkedLeft t m kept elims len map) accepted
       ∙ left-done m kept elims len map (all-pass e m kept elims len map (length v) s (length rows) (length progress) checks-pass .0))
 
--- ---- what a step leaves alone
+  -- outcomes of `step`, each on what the one before left, are these steps
+  pub same-steps : (o : ℕ → Swept) → o 0 ≡ steps 0 → ((i : ℕ) → i < length order → o (suc i) ≡ stepOf e m kept elims len (o i .map) v s (o i .rows) (o i .progress) (getD order i 0))
+      → (i : ℕ) → i ≤ length order → o i ≡ steps i
+  unfolding stepsOf
+  same-steps o z n zero h = z
+  same-steps o z n (suc i) h = n i h ∙ ap (λ (w : Swept). stepOf e m kept elims len (w .map) v s (w .rows) (w .progress) (getD order i 0)) (same-steps o z n i (omega arith))
 
--- a row that no term goes to stays as it is
-pub swept-other : (sign : Sign) (r : ℕ) (y : List Float) (ts : List RowTerm) → All (λ t. t .row ≡ r → ⊥) ts → getD (sweptOn sign y ts) r nan ≡ getD y r nan
-unfolding folded landed
-swept-other sign r y [] a = refl
-swept-other sign r y (t ∷ ts) a =
-    swept-other sign r (landed sign y t) ts (a .1)
-    ∙ getD-set-other y (t .row) r _ nan (λ q. a .0 (sym q))
+-- ---- what a step leaves alone
 
 module _ (m : Columns) (s : Spread) (v : List Float) (k r : ℕ) where
   span-others : ((p : ℕ) → getD (s .lo) k 0 ≤ p → p < getD (s .hi) k 0 → getD (m .rows) p 0 ≡ r → ⊥) → All (λ t. t .row ≡ r → ⊥) (spanTerms m s v k)
@@ -221,6 +221,32 @@ module _ (m : Columns) (s : Spread) (v : List Float) (k r : ℕ) where
       go : (b : Bool) → All (λ t. t .row ≡ r → ⊥) (cond b [] (gather (landing (m .rows) (m .values) (getD v (getD (s .local) k 0) nan)) (getD (s .lo) k 0) (getD (s .hi) k 0)))
       go true = tt
       go false = all-gather (λ t. t .row ≡ r → ⊥) (landing (m .rows) (m .values) (getD v (getD (s .local) k 0) nan)) (getD (s .lo) k 0) (getD (s .hi) k 0) (λ p a b. (h p a b, tt))
+
+-- an accepted step's entries lie in the named chunk, and a refused one leaves the rows
+module _ (e : Bool) (m : Columns) (kept elims : List ℕ) (len : ℕ) (map : List ℕ) (v : List Float) (s : Spread) (rows : List Float) (progress : List ℕ) (c r : ℕ) where
+  step-stays : eqb (stepTold e m kept elims len map v s rows progress c .number) 0 ≡ false → getD (stepOf e m kept elims len map v s rows progress c .rows) r nan ≡ getD rows r nan
+  unfolding stepOf onPass
+  step-stays q = rw q
+
+  step-outside : inChunk len c r ≡ false → Passes (stepTold e m kept elims len map v s rows progress c) → (p : ℕ) → getD (s .lo) (getD (s .starts) c 0 + getD progress c 0) 0 ≤ p
+      → p < getD (s .hi) (getD (s .starts) c 0 + getD progress c 0) 0 → getD (m .rows) p 0 ≡ r → ⊥
+  unfolding stepOrder spanCount
+  step-outside h t p a b z =
+      let u = both-pass (checksTold e m kept elims len map (length v) s (length rows) (length progress)) _ (ap (λ (w : Told). w .number) (sym (told-is e m kept elims len map v s rows progress _)) ∙ t) in
+      let n = order-next (chunkCount (m .nrows) len) (u .1) in
+      let i = checked-in-chunk e m kept elims len map (length v) s (length rows) (length progress) (u .0) c (n .0) (getD (s .starts) c 0 + getD progress c 0) (omega arith) (after (n .1)) p a b in
+      let w : _≡_ {A = ℕ} 0 1 = cc (rw z at i, h) in
+      omega arith
+    where
+      order-next : (k : ℕ) → Passes (stepOrder k s c progress) → (c < k) × (getD progress c 0 < spanCount s c)
+      order-next k q = go (hasNext k s c (getD progress c 0)) refl q
+        where
+          go : (d : Bool) → hasNext k s c (getD progress c 0) ≡ d → Passes (cond d done (tell 14 (0 ∷ []))) → (c < k) × (getD progress c 0 < spanCount s c)
+          go true f q = next-there k s c (getD progress c 0) true (sym f) refl
+          go false f q = absurd (omega arith)
+
+      after : getD progress c 0 < spanCount s c → getD (s .starts) c 0 + getD progress c 0 < getD (s .starts) (c + 1) 0
+      after q = omega arith
 
 module _ (e : Bool) (m : Columns) (kept elims : List ℕ) (len : ℕ) (map : List ℕ) (v : List Float) (s : Spread) (rows : List Float) (progress : List ℕ) (c : ℕ) where
   abbrev one : Swept
@@ -245,3 +271,11 @@ module _ (e : Bool) (m : Columns) (kept elims : List ℕ) (len : ℕ) (map : Lis
       go : (b : Bool) → getD (cond b (set progress c (getD progress c 0 + 1)) progress) k 0 ≡ getD progress k 0
       go true = getD-set-other progress c k (getD progress c 0 + 1) 0 h
       go false = refl
+
+  -- so no row outside the named chunk changes
+  pub step-chunk : (r : ℕ) → inChunk len c r ≡ false → getD (one .rows) r nan ≡ getD rows r nan
+  step-chunk r h = go (eqb (stepTold e m kept elims len map v s rows progress c .number) 0) refl
+    where
+      go : (b : Bool) → eqb (stepTold e m kept elims len map v s rows progress c .number) 0 ≡ b → getD (one .rows) r nan ≡ getD rows r nan
+      go true q = step-row r (λ p a b z. step-outside e m kept elims len map v s rows progress c r h (eqb-true _ _ q) p a b z)
+      go false q = step-stays e m kept elims len map v s rows progress c r q
