@@ -27,7 +27,7 @@ use Rattle.columns.specs.declared.refusal.Refusal.the-variants.{
 }
 use Rattle.columns.specs.declared.refusal.Answer.{Answer}
 use Rattle.columns.specs.declared.refusal.Answer.the-variants.{Done, Refused}
-use Rattle.columns.specs.Refusals.{number, values, Told, tell, refused, told, Passes, onPass, orElse, sooner}
+use Rattle.columns.specs.Refusals.{number, values, Told, tell, done, refused, told, Passes, onPass, orElse, sooner}
 
 -- ---- the refusal of a number and values
 
@@ -120,6 +120,20 @@ both-pass a b e = go (eqb (a .number) 0) refl e
     go false f e = absurd (eqb-false _ _ f e)
 
 -- ---- `or_else`
+
+pub or-refused : (r : Refusal) (t : Told) → orElse (refused r) t ≡ refused r
+or-refused r t = pass-refused r t (refused r)
+
+pub or-done : (t : Told) → orElse done t ≡ t
+or-done t = pass-done done t done refl
+
+pub or-assoc : (a b c : Told) → orElse (orElse a b) c ≡ orElse a (orElse b c)
+unfolding onPass
+or-assoc a b c = go (eqb (a .number) 0) refl
+  where
+    go : (d : Bool) → eqb (a .number) 0 ≡ d → cond (eqb (cond d b a .number) 0) c (cond d b a) ≡ cond d (cond (eqb (b .number) 0) c b) a
+    go true e = refl
+    go false e = rw e
 
 pub second-told : (a b : Answer) → a ≡ Done → told b ≡ orElse (told a) (told b)
 unfolding onPass

@@ -7,6 +7,9 @@ pub mod PlanRules
 pub mod OrderRules
 pub mod SweepRules
 pub mod StepRules
+pub mod StepLaws
+pub mod SweepCarried
 pub mod OperatorRules
 pub mod Cases
 pub mod Determined
+pub mod DeterminedOrder

@@ -50,7 +50,7 @@ use Rattle.products.specs.OrderWalk.{
   StepFits,
   RunFits,
 }
-use Rattle.products.proofs.PlanRules.{some-goes, some-stops, some-ends}
+use Rattle.ground.proofs.FirstLaws.{some-goes, some-stops, some-ends}
 
 -- ---- spans left
 

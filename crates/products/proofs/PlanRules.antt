@@ -12,7 +12,7 @@ use lib.ListN.{length, getD}
 use borrow.Author.Needs.{needs}
 use borrow.Author.Tests.{lt-ltb, le-ltb, le-leb, lt-leb, eq-eqb, ne-eqb, ltb-false, eqb-true, not-false}
 use Rattle.ground.specs.First.{first, some}
-use Rattle.ground.proofs.FirstLaws.{by-call, past-none, first-same, some-first, some-none, some-turn, some-done}
+use Rattle.ground.proofs.FirstLaws.{by-call, past-none, first-same, some-turn, some-done, some-goes, some-stops, some-ends}
 use Rattle.columns.specs.Refusals.{tell, done}
 use Rattle.columns.specs.Columns.{Columns, falls}
 use Rattle.columns.proofs.CheckLaws.{or-false}
@@ -20,18 +20,6 @@ use Rattle.plan.specs.Spans.{inChunk, Spread}
 use Rattle.products.specs.Orders.{entryOut, spanBad, chunkBad, startsBad, planBad}
 use Rattle.products.specs.Side.{sideNumber}
 use Rattle.products.specs.PlanCheck.{rowsOnly, rowOut, spanOut, spanOutAt, startsOut, planTold, StartsThere, SpansThere, ChunkThere, ChunksThere, PlanThere}
-
--- ---- a loop that stops at the first place where a test holds, and says whether there is one
-
-module _ (bad : ℕ → Bool) where
-  pub some-goes : {k hi : ℕ} {z : Bool} → k < hi → some bad k hi ≡ z → bad k ≡ false → some bad (k + 1) hi ≡ z
-  some-goes {k} {hi} h inv e = ap (λ (b : Bool). b || some bad (k + 1) hi) (sym e) ∙ sym (some-first bad k hi h) ∙ inv
-
-  pub some-stops : {k hi : ℕ} {z : Bool} → k < hi → some bad k hi ≡ z → bad k ≡ true → true ≡ z
-  some-stops {k} {hi} h inv e = ap (λ (b : Bool). b || some bad (k + 1) hi) (sym e) ∙ sym (some-first bad k hi h) ∙ inv
-
-  pub some-ends : {k hi : ℕ} {z : Bool} → hi ≤ k → some bad k hi ≡ z → false ≡ z
-  some-ends {k} {hi} h inv = sym (some-none bad k hi h) ∙ inv
 
 pub or-of : (b t u : Bool) → t ≡ u → (b || t) ≡ (b || u)
 or-of b t u e = rw e

@@ -23,7 +23,7 @@ use Rattle.columns.specs.Refusals.{Told, tell, done, refused, told, Passes, onP
 use Rattle.columns.specs.Lengths.{wrongLength}
 use Rattle.columns.specs.Columns.{Columns, columnCount}
 use Rattle.columns.specs.Sums.{zero₊, sweptOn}
-use Rattle.columns.proofs.RefusalLaws.{pass-refused, pass-done, passed}
+use Rattle.columns.proofs.RefusalLaws.{pass-refused, pass-done, passed, or-refused, or-done, or-assoc}
 use Rattle.blocks.specs.Sides.{sideOf}
 use Rattle.blocks.specs.Claims.{marked, Mapped}
 use Rattle.plan.specs.Spans.{chunkCount, Spread}
@@ -53,7 +53,7 @@ use Rattle.products.specs.Orders.{
 use Rattle.products.specs.OrderWalk.{entriesOnly, startsOnly, counts, Tested, testedOrder, Work, work, stepped, placeTerms, ranTo, ranOrder, StartsFit, PlanFits, StepFits, RunFits}
 use Rattle.products.specs.SweepCheck.{chunkedLeft, checksTold, checkSweep}
 use Rattle.products.proofs.OrderRules.{served-named, served-other, next-there}
-use Rattle.products.proofs.SweepRules.{or-refused, or-done, or-assoc, left-done, mark-left, all-pass, checked-progress, checked-plan}
+use Rattle.products.proofs.SweepRules.{left-done, mark-left, all-pass, checked-progress, checked-plan}
 
 -- ---- plans of which the starts alone count
 

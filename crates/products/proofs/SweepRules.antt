@@ -1,17 +1,17 @@
 -- The checks that steps and sweeps have in common: what they tell and leave, by how far they get, and what a pass gives the work behind it.
 -- Assumes nothing.
 use mathlib.Core.Path.{_≡_, refl, sym, ap, _∙_}
-use mathlib.Core.Bool.{Bool, true, false, not, cond}
+use mathlib.Core.Bool.{Bool, true, false, not}
 use mathlib.Core.List.{List, [], _∷_, _++_}
 use Prim.Native.Nat.{ℕ, _+_, _-_, _*_, _≤_, _<_}
 use native.Mathlib.Nat.{le-trans, div-le-self, div-mul-le-self}
 use native.Mathlib.Numerals.{add-one}
 use native.Mathlib.Omega.{arith}
-use lib.Dec.{eqb, leb, ltb}
+use lib.Dec.{leb, ltb}
 use lib.ListN.{length, getD, drop, replicate, length-append}
 use lib.Seq.{drop-at}
 use borrow.Author.Needs.{needs}
-use borrow.Author.Tests.{leb-false, ltb-false}
+use borrow.Author.Tests.{leb-false, ltb-false, not-false}
 use Rattle.ground.specs.First.{some}
 use Rattle.ground.specs.Gather.{listOf}
 use Rattle.ground.proofs.FirstLaws.{past-none}
@@ -22,7 +22,7 @@ use Rattle.columns.specs.declared.refusal.Answer.the-variants.{Done, Refused}
 use Rattle.columns.specs.Refusals.{Told, done, refused, told, Passes, onPass, orElse}
 use Rattle.columns.specs.Lengths.{noRoom, wrongLength}
 use Rattle.columns.specs.Columns.{Columns, columnCount, entryCount, firstIn, endIn, Keeps}
-use Rattle.columns.proofs.RefusalLaws.{pass-refused, pass-done, both-pass, passed}
+use Rattle.columns.proofs.RefusalLaws.{pass-refused, pass-done, both-pass, passed, or-refused, or-done, or-assoc}
 use Rattle.columns.proofs.CheckLaws.{or-false, passes-keeps}
 use Rattle.columns.proofs.CallLaws.{lengths-right, room-right}
 use Rattle.blocks.specs.Sides.{blockCount, dofOf, offsetOf, sideDof, sideOf}
@@ -31,7 +31,7 @@ use Rattle.blocks.specs.Walk.{Roomy, walkBlocks}
 use Rattle.blocks.proofs.CallRules.{parts-passes}
 use Rattle.blocks.proofs.PartLaws.{walk-parted}
 use Rattle.blocks.proofs.WalkRules.{marked-all}
-use Rattle.plan.specs.Spans.{chunkTold, chunkCount, Spread}
+use Rattle.plan.specs.Spans.{chunkTold, chunkCount, inChunk, Spread}
 use Rattle.plan.specs.SpanWalk.{Chunked}
 use Rattle.plan.proofs.ChunkLaws.{chunk-passes}
 use Rattle.products.specs.declared.side.Side.{Side}
@@ -67,22 +67,6 @@ few-kept kept elims f = record { few = f .kept-few }
 
 pub few-elims : (kept elims : List ℕ) → FewSides kept elims → FewBlocks elims
 few-elims kept elims f = record { few = f .elims-few }
-
--- ---- one check after another
-
-pub or-refused : (r : Refusal) (t : Told) → orElse (refused r) t ≡ refused r
-or-refused r t = pass-refused r t (refused r)
-
-pub or-done : (t : Told) → orElse done t ≡ t
-or-done t = pass-done done t done refl
-
-pub or-assoc : (a b c : Told) → orElse (orElse a b) c ≡ orElse a (orElse b c)
-unfolding onPass
-or-assoc a b c = go (eqb (a .number) 0) refl
-  where
-    go : (d : Bool) → eqb (a .number) 0 ≡ d → cond (eqb (cond d b a .number) 0) c (cond d b a) ≡ cond d (cond (eqb (b .number) 0) c b) a
-    go true e = refl
-    go false e = rw e
 
 -- ---- 1 to 9
 
@@ -285,6 +269,17 @@ module _ (m : Columns) (dof len chunks : ℕ) (s : Spread) (good : planBad m dof
       let z = or-false (leb dof (getD (s .local) k 0)) _ (y .1) in
       (ltb-false _ _ (x .0), ltb-false _ _ (y .0), leb-false _ _ (z .0))
 
+  -- a chunk's entries lie in it
+  pub good-in-chunk : (c : ℕ) → c < chunks → (k : ℕ) → getD (s .starts) c 0 ≤ k → k < getD (s .starts) (c + 1) 0 → (p : ℕ) → getD (s .lo) k 0 ≤ p → p < getD (s .hi) k 0 → inChunk len c (getD (m .rows) p 0) ≡ true
+  unfolding planBad chunkBad spanBad entryOut
+  good-in-chunk c h k low high p a b =
+      let x = past-none (chunkBad m dof len s) 0 chunks (or-false (startsBad chunks s) (some (chunkBad m dof len s) 0 chunks) good .1) c (omega arith) h in
+      let d = past-none (spanBad m dof len s c) (getD (s .starts) c 0) (getD (s .starts) (c + 1) 0) x k low high in
+      let y = or-false (ltb (getD (s .hi) k 0) (getD (s .lo) k 0)) _ d in
+      let z = or-false (ltb (entryCount m) (getD (s .hi) k 0)) _ (y .1) in
+      let w = or-false (leb dof (getD (s .local) k 0)) _ (z .1) in
+      not-false _ (past-none (entryOut m len c) (getD (s .lo) k 0) (getD (s .hi) k 0) (w .1) p a b)
+
   -- its spans can be swept, with a vector of nv entries over ny rows
   pub good-spans : Keeps m → (nv ny : ℕ) → nv ≡ dof → ny ≡ m .nrows → length (s .hi) ≡ length (s .lo) → length (s .local) ≡ length (s .lo)
       → SpansFit (m .rows) (length (m .values)) nv ny (s .lo) (s .hi) (s .local)
@@ -318,6 +313,12 @@ module _ (e : Bool) (m : Columns) (kept elims : List ℕ) (len : ℕ) (map : Lis
   pub checked-chunks : Chunks m kept elims len
   checked-chunks = chunks-of m kept elims len map (all-pass .0) (all-pass .1)
 
+  pub checked-room : columnCount m ≤ length map
+  checked-room =
+      let a = parts-passes m kept elims (orElse (chunkTold len) (noRoom (length map ∷ columnCount m ∷ []))) (all-pass .0) in
+      let b = both-pass (chunkTold len) (noRoom (length map ∷ columnCount m ∷ [])) (a .3) in
+      room-right (length map ∷ columnCount m ∷ []) (b .1) 0 (omega arith)
+
   lengths : (k : ℕ) → k < 7 → getD pairs (k + k) 0 ≡ getD pairs (k + k + 1) 0
   lengths k h = lengths-right pairs (all-pass .2) k h
 
@@ -330,6 +331,10 @@ module _ (e : Bool) (m : Columns) (kept elims : List ℕ) (len : ℕ) (map : Lis
 
   pub checked-rows : ny ≡ m .nrows
   checked-rows = lengths 5 (omega arith)
+
+  pub checked-in-chunk : (c : ℕ) → c < chunkCount (m .nrows) len → (k : ℕ) → getD (s .starts) c 0 ≤ k → k < getD (s .starts) (c + 1) 0
+      → (p : ℕ) → getD (s .lo) k 0 ≤ p → p < getD (s .hi) k 0 → inChunk len c (getD (m .rows) p 0) ≡ true
+  checked-in-chunk = good-in-chunk m (sideDof (sideOf e kept elims)) len (chunkCount (m .nrows) len) s plan-good
 
   pub checked-plan : PlanFits (m .rows) (length (m .values)) nv ny s np
   checked-plan = record {

@@ -9,3 +9,4 @@ pub mod OrderWalk
 pub mod SweepCheck
 pub mod Operator
 pub mod OperatorCalls
+pub mod Steps

@@ -137,7 +137,8 @@ fn run_order(
     requires { ⌜ RunFits (now rows) (length (now values)) (length (now v)) (length (now y)) (record { starts = now starts; lo = now lo; hi = now hi; local = now local }) (now progress) (now order) ⌝ }
     ensures { λ _. ⌜ record { rows = now (y .exit); progress = now (progress .exit) } ≡ ranOrder sign (entriesOnly (now (rows .entry)) (now (values .entry))) (record { starts = now (starts .entry); lo = now (lo .entry); hi = now (hi .entry); local = now (local .entry) }) (now (v .entry)) (now (order .entry)) (record { rows = now (y .entry); progress = now (progress .entry) }) ⌝ }
 {
-    for i in 0..order.len() {
+    let n = order.len();
+    for i in 0..n {
         do_step(
             sign,
             rows,

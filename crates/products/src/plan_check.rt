@@ -158,7 +158,7 @@ fn starts_bad(starts: &[u32], chunks: usize, n: usize) -> bool
 }
 
 // Refusal 13 of a side's plan, whose lists have the right lengths.
-pub fn check_plan(
+pub(crate) fn check_plan(
     side: Side,
     rows: &[u32],
     dof: usize,

@@ -13,10 +13,10 @@ use Rattle.products.proofs.order.run_order.Statement.{statement}
 use Rattle.products.proofs.order.run_order.Tie as tie
 
 abbrev Inv-loop : tie.InvT-loop
-Inv-loop sign rows values v starts lo hi local y₀ progress₀ order i₀ i-end y progress i = (i ≤ length order) × (length y ≡ length y₀) × (progress ≡ counts (length progress₀) order i) × (sweptOn sign y (gather (placeTerms (entriesOnly rows values) (record { starts = starts; lo = lo; hi = hi; local = local }) v order) i (length order)) ≡ sweptOn sign y₀ (gather (placeTerms (entriesOnly rows values) (record { starts = starts; lo = lo; hi = hi; local = local }) v order) 0 (length order)))
+Inv-loop sign rows values v starts lo hi local y₀ progress₀ order n i₀ y progress i = (i ≤ length order) × (length y ≡ length y₀) × (progress ≡ counts (length progress₀) order i) × (sweptOn sign y (gather (placeTerms (entriesOnly rows values) (record { starts = starts; lo = lo; hi = hi; local = local }) v order) i (length order)) ≡ sweptOn sign y₀ (gather (placeTerms (entriesOnly rows values) (record { starts = starts; lo = lo; hi = hi; local = local }) v order) 0 (length order)))
 
 abbrev μ-loop : tie.MeasureT-loop
-μ-loop sign rows values v starts lo hi local y₀ progress₀ order i₀ i-end y progress i = length order - i
+μ-loop sign rows values v starts lo hi local y₀ progress₀ order n i₀ y progress i = length order - i
 
 add-i : tie.Need-add-i Inv-loop μ-loop
 add-i c = omega (arith, c .before .before .before .before .before .before .before .before .before .loop-test .taken, c .before .before .before .before .before .before .before .before .before .before .before .before .before .before .before .before .before .before .before .before .before .good)

@@ -3,7 +3,8 @@ use mathlib.Core.Path.{_≡_}
 use Prim.Native.Nat.{_-_}
 use Rattle.ground.specs.First.{some}
 use Rattle.products.specs.PlanCheck.{spanOutAt}
-use Rattle.products.proofs.PlanRules.{some-goes, some-stops, span-told, planning}
+use Rattle.products.proofs.PlanRules.{span-told, planning}
+use Rattle.ground.proofs.FirstLaws.{some-goes, some-stops}
 use Rattle.products.proofs.plan_check.some_span_bad.Statement.{statement}
 use Rattle.products.proofs.plan_check.some_span_bad.Tie as tie
 
