@@ -5,7 +5,7 @@ use mathlib.Core.List.{List, [], _∷_, _++_, append-nil}
 use Prim.Native.Nat.{ℕ, zero, suc, _+_, _≤_, _<_}
 use native.Mathlib.Omega.{arith}
 use native.Mathlib.Decide.{decLt}
-use lib.Dec.{eqb, ltb}
+use lib.Dec.{ltb}
 use lib.ListN.{length, getD, set}
 use lib.Ieee.{Float, nan, binary64, add, mul}
 use borrow.Author.Tests.{eq-eqb, ne-eqb, lt-ltb, le-ltb}
@@ -19,12 +19,12 @@ use Rattle.ground.proofs.FoldLaws.{folded-append, folded-one}
 use Rattle.columns.specs.declared.refusal.Refusal.{Refusal}
 use Rattle.columns.specs.declared.refusal.Answer.{Answer}
 use Rattle.columns.specs.declared.refusal.Answer.the-variants.{Done, Refused}
-use Rattle.columns.specs.Refusals.{Told, done, refused, told, Passes, onPass, orElse}
+use Rattle.columns.specs.Refusals.{Told, refused, told, orElse}
 use Rattle.columns.specs.Lengths.{wrongLength}
-use Rattle.columns.specs.Columns.{Columns, columnsOf}
+use Rattle.columns.specs.Columns.{Columns}
 use Rattle.columns.specs.Sums.{zero₋, Term, term, addTerm, sumFrom}
 use Rattle.columns.specs.JacobianOps.{gatherTerms}
-use Rattle.columns.proofs.RefusalLaws.{pass-refused, pass-done}
+use Rattle.columns.proofs.RefusalLaws.{or-refused, or-done}
 use Rattle.columns.proofs.CallLaws.{lengths-right}
 use Rattle.blocks.specs.Sides.{sideDof}
 use Rattle.plan.specs.Spans.{chunkCount, Spread}
@@ -33,7 +33,7 @@ use Rattle.products.specs.SideSums.{columnAt, sideGather}
 use Rattle.products.specs.Operator.{dampTerm, keptSum, keptSums, dampLength, planLengths, Sizes, operatorPairs}
 use Rattle.products.specs.OperatorCalls.{operatorLent, dampAt, dampedOn, DampFits}
 use Rattle.products.specs.PlanCheck.{planTold, PlanThere}
-use Rattle.products.proofs.SweepRules.{or-refused, or-done, small-end}
+use Rattle.products.proofs.SweepRules.{small-end}
 
 -- ---- the damping's length
 

@@ -1,18 +1,12 @@
+-- `operator::check_operands` meets its contract. Assumes nothing.
 use native.Mathlib.Omega.{arith}
 use Rattle.plan.specs.Spans.{Spread}
-use Rattle.products.specs.PlanCheck.{rowsOnly}
-use Rattle.products.specs.Operator.{Sizes}
+use Rattle.products.proofs.OperatorRules.{operands-refused, kept-there, elims-there, kept-refused, both-plans, operating}
 use Rattle.products.proofs.SweepRules.{few-chunks}
-use Rattle.products.proofs.OperatorRules.{operands-refused, kept-there, elims-there, kept-refused, both-plans}
-use Rattle.products.proofs.OperatorRules.{operating}
+use Rattle.products.specs.Operator.{Sizes}
+use Rattle.products.specs.PlanCheck.{rowsOnly}
 use Rattle.products.proofs.operator.check_operands.Statement.{statement}
 use Rattle.products.proofs.operator.check_operands.Tie as tie
-
-chunk-count-requires : tie.Need-chunk-count-requires
-chunk-count-requires c κs = search operating
-
-damp-length-requires : tie.Need-damp-length-requires
-damp-length-requires c κs = search operating
 
 add-t25 : tie.Need-add-t25
 add-t25 c =
@@ -26,15 +20,6 @@ add-t29 c =
     let b11 = b1 .before .before .before .before .before .before .before .before .before .before in
     omega (arith, few-chunks _ _ _ (b11 .pre) (b1 .chunk-count .ensures))
 
-slice-aggregate-wrong-length : tie.Need-slice-aggregate-wrong-length
-slice-aggregate-wrong-length c = search operating
-
-wrong-length-requires : tie.Need-wrong-length-requires
-wrong-length-requires c κs = search operating
-
-enum-known-r : tie.Need-enum-known-r
-enum-known-r c = search operating
-
 returns : tie.Need-returns
 returns c =
     let b1 = c .before in
@@ -47,9 +32,6 @@ returns c =
     let es : Spread = record { starts = b16 .args .elims-starts .now; lo = b16 .args .elims-lo .now; hi = b16 .args .elims-hi .now; local = b16 .args .elims-local .now } in
     operands-refused _ (rowsOnly (b16 .args .rows .now)) _ (b16 .args .kept-dof) (b16 .args .elims-dof) (b16 .args .count) z ks es _ _ (b3 .wrong-length .result) (b6 .chunk-count .ensures) (b5 .damp-length .ensures) (b3 .wrong-length .ensures) (b1 .r .given .0 .0) (b1 .r .given .1)
 
-enum-told : tie.Need-enum-told
-enum-told c = search operating
-
 check-plan-requires : tie.Need-check-plan-requires
 check-plan-requires c κs =
     let b2 = c .before .before in
@@ -60,9 +42,6 @@ check-plan-requires c κs =
     let ks : Spread = record { starts = b15 .args .kept-starts .now; lo = b15 .args .kept-lo .now; hi = b15 .args .kept-hi .now; local = b15 .args .kept-local .now } in
     let es : Spread = record { starts = b15 .args .elims-starts .now; lo = b15 .args .elims-lo .now; hi = b15 .args .elims-hi .now; local = b15 .args .elims-local .now } in
     kept-there _ (rowsOnly (b15 .args .rows .now)) _ (b15 .args .kept-dof) (b15 .args .elims-dof) (b15 .args .count) z ks es _ _ (b2 .wrong-length .result) (b5 .chunk-count .ensures) (b4 .damp-length .ensures) (b2 .wrong-length .ensures) (c .enum-told .given .1) (b15 .pre)
-
-enum-known-kept-plan : tie.Need-enum-known-kept-plan
-enum-known-kept-plan c = search operating
 
 returns-2 : tie.Need-returns-2
 returns-2 c =
@@ -77,9 +56,6 @@ returns-2 c =
     let ks : Spread = record { starts = b19 .args .kept-starts .now; lo = b19 .args .kept-lo .now; hi = b19 .args .kept-hi .now; local = b19 .args .kept-local .now } in
     let es : Spread = record { starts = b19 .args .elims-starts .now; lo = b19 .args .elims-lo .now; hi = b19 .args .elims-hi .now; local = b19 .args .elims-local .now } in
     kept-refused _ (rowsOnly (b19 .args .rows .now)) _ (b19 .args .kept-dof) (b19 .args .elims-dof) (b19 .args .count) z ks es _ _ (b6 .wrong-length .result) (b9 .chunk-count .ensures) (b8 .damp-length .ensures) (b6 .wrong-length .ensures) (b4 .enum-told .given .1) (b3 .check-plan .result) (b3 .check-plan .ensures) (b1 .kept-plan .given .0 .0) (b1 .kept-plan .given .1)
-
-enum-told-2 : tie.Need-enum-told-2
-enum-told-2 c = search operating
 
 check-plan-requires-2 : tie.Need-check-plan-requires-2
 check-plan-requires-2 c κs =
@@ -108,4 +84,8 @@ returns-3 c =
     both-plans _ (rowsOnly (b19 .args .rows .now)) _ (b19 .args .kept-dof) (b19 .args .elims-dof) (b19 .args .count) z ks es _ _ (b6 .wrong-length .result) (b9 .chunk-count .ensures) (b8 .damp-length .ensures) (b6 .wrong-length .ensures) (b4 .enum-told .given .1) (b3 .check-plan .result) (b3 .check-plan .ensures) (c .check-plan2 .result) (b1 .enum-told2 .given .1) (c .check-plan2 .ensures)
 
 pub check-operands-spec : {M : Type 1} → statement M
-check-operands-spec = tie.close (tie.spec chunk-count-requires damp-length-requires add-t25 add-t29 slice-aggregate-wrong-length wrong-length-requires enum-known-r returns enum-told check-plan-requires enum-known-kept-plan returns-2 enum-told-2 check-plan-requires-2 returns-3)
+check-operands-spec =
+    tie.close (tie.spec
+    (λ c κs. search operating) (λ c κs. search operating) add-t25 add-t29 (λ c. search operating) (λ c κs. search operating)
+    (λ c. search operating) returns (λ c. search operating) check-plan-requires (λ c. search operating) returns-2
+    (λ c. search operating) check-plan-requires-2 returns-3)
