@@ -1,6 +1,6 @@
 // Products over columns, blocks and a plan.
 pub mod coupling;
-pub mod operator;
+mod operator;
 pub mod order;
 mod plan_check;
 pub mod side;
