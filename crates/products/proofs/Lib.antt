@@ -10,6 +10,7 @@ pub mod StepRules
 pub mod StepLaws
 pub mod SweepCarried
 pub mod OperatorRules
+pub mod OperatorCalls
 pub mod Cases
 pub mod Determined
 pub mod DeterminedOrder
