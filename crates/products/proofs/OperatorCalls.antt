@@ -1,7 +1,7 @@
 -- What a call of `apply_schur_operator` comes to, by how far it gets, and what its checks give its steps. Assumes nothing.
 use mathlib.Core.Path.{_≡_, refl, sym, ap, _∙_}
 use mathlib.Core.Bool.{Bool, true, false}
-use mathlib.Core.List.{List, [], _∷_}
+use mathlib.Core.List.{List}
 use Prim.Native.Nat.{ℕ, _+_, _≤_, _<_}
 use native.Mathlib.Omega.{arith}
 use native.Mathlib.Decide.{ℕ-discrete}
@@ -14,13 +14,12 @@ use Rattle.columns.specs.declared.unchecked.Sign.the-variants.{Plus, Minus}
 use Rattle.columns.specs.declared.refusal.Refusal.{Refusal}
 use Rattle.columns.specs.declared.refusal.Answer.{Answer}
 use Rattle.columns.specs.declared.refusal.Answer.the-variants.{Done, Refused}
-use Rattle.columns.specs.Refusals.{Told, done, refused, told, Passes, onPass, orElse}
+use Rattle.columns.specs.Refusals.{Told, done, refused, told, Passes, orElse}
 use Rattle.columns.specs.Lengths.{wrongLength}
 use Rattle.columns.specs.Columns.{Columns, columnsOf, columnCount}
 use Rattle.columns.specs.Sums.{zero₊, zero₋, sweptOn}
 use Rattle.columns.proofs.RefusalLaws.{or-refused, or-assoc, both-pass, passed, pass-refused, pass-done}
 use Rattle.columns.proofs.CallLaws.{lengths-right}
-use Rattle.columns.proofs.SumLaws.{length-swept}
 use Rattle.blocks.specs.Sides.{sideDof, sideOf}
 use Rattle.blocks.specs.Claims.{marked, Mapped, BlocksKeep}
 use Rattle.blocks.specs.BlockValues.{valueCount, Limited}
@@ -31,9 +30,9 @@ use Rattle.products.specs.SideSums.{sideGather, inverseTimes}
 use Rattle.products.specs.SideFits.{SideFits, DofsFit, InversesFit}
 use Rattle.products.specs.Orders.{planBad, badPlan, spanTerms, planTerms, earlyChunked, lateBlocks}
 use Rattle.products.specs.OrderWalk.{entriesOnly, spansOnly, SpansFit}
-use Rattle.products.specs.PlanCheck.{rowsOnly, planTold}
+use Rattle.products.specs.PlanCheck.{rowsOnly}
 use Rattle.products.specs.SweepCheck.{chunkedLeft, checkChunked}
-use Rattle.products.specs.Operator.{dampLength, Operands, Work, Sizes, sizesOf, operatorPairs, operatorLengths, operatorTold, keptRows, eliminatedSums, reducedRows, keptSums, operated, Operated, schurOperator}
+use Rattle.products.specs.Operator.{dampLength, Operands, Work, sizesOf, operatorLengths, operatorTold, keptRows, eliminatedSums, reducedRows, keptSums, operated, schurOperator}
 use Rattle.products.specs.OperatorCalls.{operatorLent, dampedOn, DampFits}
 use Rattle.products.proofs.LentRules.{dofs-fit, side-fits}
 use Rattle.products.proofs.OperatorRules.{damped-sums}

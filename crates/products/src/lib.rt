@@ -1,6 +1,6 @@
 // Products over columns, blocks and a plan.
 pub mod coupling;
-mod operator;
+pub mod operator;
 pub mod order;
 mod plan_check;
 pub mod side;

@@ -140,3 +140,89 @@ fn add_damping(d: &[f64], v: &[f64], out: &mut [f64])
         out[l] = out[l] + d[l] * v[l];
     }
 }
+
+// `S·v`. The rows y, t and u end as the steps leave them.
+pub fn apply_schur_operator(
+    nrows: usize,
+    ptrs: &[u32],
+    rows: &[u32],
+    values: &[f64],
+    kept: &[u32],
+    elims: &[u32],
+    map: &mut [u32],
+    chunk_len: usize,
+    v: &[f64],
+    inverses: &[f64],
+    d: &[f64],
+    kept_starts: &[u32],
+    kept_lo: &[u32],
+    kept_hi: &[u32],
+    kept_local: &[u32],
+    elims_starts: &[u32],
+    elims_lo: &[u32],
+    elims_hi: &[u32],
+    elims_local: &[u32],
+    y: &mut [f64],
+    t: &mut [f64],
+    u: &mut [f64],
+    out: &mut [f64],
+) -> Answer
+    ensures { λ r. ⌜ record { told = told r; map = now (map .exit); work = record { rows = now (y .exit); t = now (t .exit); u = now (u .exit); out = now (out .exit) } } ≡ schurOperator (columnsOf nrows (now (ptrs .entry)) (now (rows .entry)) (now (values .entry))) (now (kept .entry)) (now (elims .entry)) «chunk_len» (now (map .entry)) (record { v = now (v .entry); inverses = now (inverses .entry); d = now (d .entry); kept = record { starts = now («kept_starts» .entry); lo = now («kept_lo» .entry); hi = now («kept_hi» .entry); local = now («kept_local» .entry) }; elims = record { starts = now («elims_starts» .entry); lo = now («elims_lo» .entry); hi = now («elims_hi» .entry); local = now («elims_local» .entry) } }) (record { rows = now (y .entry); t = now (t .entry); u = now (u .entry); out = now (out .entry) }) ⌝ }
+{
+    let checked = check_chunked(nrows, ptrs, rows, values, kept, elims, chunk_len, map);
+    if let Answer::Refused(r) = checked {
+        return Answer::Refused(r);
+    }
+    let sizes = Sizes {
+        v: v.len(),
+        inverses: inverses.len(),
+        d: d.len(),
+        rows: y.len(),
+        t: t.len(),
+        u: u.len(),
+        out: out.len(),
+    };
+    let lent = check_operands(
+        nrows,
+        rows,
+        chunk_len,
+        side_dof(kept),
+        side_dof(elims),
+        count_values(elims),
+        sizes,
+        kept_starts,
+        kept_lo,
+        kept_hi,
+        kept_local,
+        elims_starts,
+        elims_lo,
+        elims_hi,
+        elims_local,
+    );
+    if let Answer::Refused(r) = lent {
+        mark_map(map, column_count(ptrs));
+        return Answer::Refused(r);
+    }
+    // y = F·v
+    clear(y);
+    sweep_plan(Sign::Plus, rows, values, v, kept_lo, kept_hi, kept_local, y);
+    // t = Eᵀ·y
+    gather_side(ptrs, rows, values, elims, y, -0.0, t);
+    // u = inverses·t
+    inverse_times(elims, inverses, t, u);
+    // y ← y − E·u
+    sweep_plan(
+        Sign::Minus,
+        rows,
+        values,
+        u,
+        elims_lo,
+        elims_hi,
+        elims_local,
+        y,
+    );
+    // out = Fᵀ·y + d·v
+    gather_side(ptrs, rows, values, kept, y, -0.0, out);
+    add_damping(d, v, out);
+    Answer::Done
+}
