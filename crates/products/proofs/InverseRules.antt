@@ -19,10 +19,10 @@ use Rattle.blocks.specs.Sides.{blockCount, dofOf, offsetOf, sideDof}
 use Rattle.blocks.specs.Access.{squaresBefore, entryPlace}
 use Rattle.blocks.specs.BlockValues.{Writing, writing, put}
 use Rattle.blocks.proofs.AccessRules.{in-square, squares-first}
-use Rattle.blocks.proofs.ValueRules.{put-all, squares-within, squares-after}
+use Rattle.blocks.proofs.ValueRules.{put-all, squares-within}
 use Rattle.products.specs.SideSums.{inverseTerm, inverseEntry, inverseBlock, inverseTimes}
 use Rattle.products.specs.SideFits.{blockTerm, blockRow, RowFits, TermFits, RowsFit, InversesFit}
-use Rattle.products.proofs.SideRules.{first-place, next-place, places-in}
+use Rattle.products.proofs.SideRules.{first-place, places-in}
 
 -- ---- one term, one row
 
@@ -114,22 +114,4 @@ module _ (elims : List ℕ) (b from at dof : ℕ) (q : from ≡ squaresBefore el
     room = rw (e, f .room) (places-in elims b at dof s d l);
   }
 
-pub ruleset inverting = (
-  loops,
-  term-place,
-  term-entry,
-  term-fits,
-  term-added,
-  row-fits,
-  row-room,
-  rows-start,
-  rows-turn,
-  rows-done,
-  first-place,
-  next-place,
-  squares-first,
-  squares-after,
-  inverses-turn,
-  inverses-done,
-  rows-fit,
-)
+pub ruleset inverting = (loops, term-entry, term-fits, term-added, term-place, row-fits, row-room, rows-start, rows-turn, rows-done, first-place, squares-first, inverses-done, rows-fit)

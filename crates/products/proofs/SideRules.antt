@@ -115,25 +115,4 @@ module _ (m : Columns) (side : List ℕ) where
     pub gather-done : (start : Float) (y out z : List Float) → written (localSum start m side y) at (sideDof side) out ≡ z → out ≡ z
     gather-done start y out z inv = done (λ l z. set z l (localSum start m side y l)) (omega (arith, all-places side b at s h g)) inv
 
-pub ruleset siding = (
-  loops,
-  first-place,
-  next-place,
-  all-places,
-  places-in,
-  dofs-in,
-  block-in,
-  columns-in,
-  column-has,
-  sweep-turn,
-  gather-turn,
-  block-swept,
-  block-gathered,
-  block-fits,
-  blocks-swept,
-  blocks-gathered,
-  sweep-start,
-  gather-start,
-  sweep-done,
-  gather-done,
-)
+pub ruleset siding = (loops, first-place, next-place, all-places, column-has, block-fits, sweep-start, gather-start, sweep-done, gather-done)
