@@ -14,3 +14,4 @@ pub mod OperatorCalls
 pub mod Cases
 pub mod Determined
 pub mod DeterminedOrder
+pub mod DeterminedOperator
