@@ -24,7 +24,8 @@ use Rattle.plan.specs.Spans.{chunkTold, chunkCount, inChunk, placeIn, pastLast,
 use Rattle.plan.specs.SpanWalk.{Chunked}
 use Rattle.products.specs.Orders.{entryOut, spanBad, chunkBad, startsBad, planBad, badPlan, spanCount, served, hasNext, placeBad, chunkLeft, badOrder, orderTerms, sweepTold₁₄}
 use Rattle.products.specs.SideSums.{sideTerms}
-use Rattle.undivided.specs.Undivided.{Planned, SidePlanned, stepsTo, unstepped}
+use Rattle.products.specs.Steps.{stepsOf}
+use Rattle.undivided.specs.Undivided.{Planned, SidePlanned}
 use Rattle.undivided.proofs.Demand3.{rows-of-order}
 use Rattle.undivided.proofs.StepLaws.{steps-undivided}
 
@@ -103,18 +104,18 @@ pub elims-rows : sweptOn Minus firstRows (orderTerms hall elimsLists (f 3 ∷ f 
 elims-rows = rows-of-order hall kept elims true 2 elimsLists elims-planned Minus firstRows refl (f 3 ∷ f 5 ∷ []) order (rw elims-accepted) ∙ elims-undivided
 
 -- of the whole calls: both sweeps pass, and so their steps in that order leave the same rows
-kept-sweep : Passes (sweepTold₁₄ false hall kept elims 2 (replicate 3 0) (f 2 ∷ []) keptLists (replicate 5 (f 0)) (replicate 3 0) order)
+kept-sweep : sweepTold₁₄ false hall kept elims 2 (replicate 3 0) (f 2 ∷ []) keptLists (replicate 5 (f 0)) (replicate 3 0) order ≡ done
 unfolding firstN first gatherN gather onPass pairBad pairsTold firstIn endIn tooBig falls badShape rowBad rowFalls columnBad badRow checked blockColumns offsetOf tooMany isOdd listsTold emptySide blockClaims placeOf claimBad walkTold gapTold chunkTold chunkCount inChunk entryOut spanBad chunkBad startsBad planBad badPlan spanCount served hasNext placeBad chunkLeft badOrder
 kept-sweep = refl
 
-elims-sweep : Passes (sweepTold₁₄ true hall kept elims 2 (replicate 3 0) (f 3 ∷ f 5 ∷ []) elimsLists firstRows (replicate 3 0) order)
+elims-sweep : sweepTold₁₄ true hall kept elims 2 (replicate 3 0) (f 3 ∷ f 5 ∷ []) elimsLists firstRows (replicate 3 0) order ≡ done
 unfolding firstN first gatherN gather onPass pairBad pairsTold firstIn endIn tooBig falls badShape rowBad rowFalls columnBad badRow checked blockColumns offsetOf tooMany isOdd listsTold emptySide blockClaims placeOf claimBad walkTold gapTold chunkTold chunkCount inChunk entryOut spanBad chunkBad startsBad planBad badPlan spanCount served hasNext placeBad chunkLeft badOrder
 elims-sweep = refl
 
-pub kept-steps : stepsTo false hall kept elims 2 (replicate 3 0) (f 2 ∷ []) keptLists order 3 (unstepped false hall 2 (replicate 3 0) (replicate 5 (f 0))) .rows ≡ firstRows
+pub kept-steps : stepsOf false hall kept elims 2 (replicate 3 0) (f 2 ∷ []) keptLists (replicate 5 (f 0)) order 3 .rows ≡ firstRows
 unfolding ofInt ofBits
 kept-steps = steps-undivided false hall kept elims 2 (replicate 3 0) (f 2 ∷ []) keptLists (replicate 5 (f 0)) (replicate 3 0) order kept-sweep kept-planned ∙ kept-undivided
 
-pub elims-steps : stepsTo true hall kept elims 2 (replicate 3 0) (f 3 ∷ f 5 ∷ []) elimsLists order 3 (unstepped true hall 2 (replicate 3 0) firstRows) .rows
+pub elims-steps : stepsOf true hall kept elims 2 (replicate 3 0) (f 3 ∷ f 5 ∷ []) elimsLists firstRows order 3 .rows
     ≡ ofInt binary64 (negsuc 0) ∷ f 1 ∷ f 0 ∷ ofInt binary64 (negsuc 3) ∷ f 3 ∷ []
 elims-steps = steps-undivided true hall kept elims 2 (replicate 3 0) (f 3 ∷ f 5 ∷ []) elimsLists firstRows (replicate 3 0) order elims-sweep elims-planned ∙ elims-undivided

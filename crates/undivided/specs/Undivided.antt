@@ -3,14 +3,12 @@ use mathlib.Core.Path.{_≡_}
 use mathlib.Core.Bool.{Bool, cond}
 use mathlib.Core.List.{List, map}
 use Prim.Native.Nat.{ℕ, _+_, _<_}
-use lib.ListN.{length, getD, take, replicate}
+use lib.ListN.{length, getD, take}
 use lib.Ieee.{Float}
-use Rattle.ground.specs.Range.{range}
 use Rattle.ground.specs.Fold.{folded}
 use Rattle.ground.specs.Gather.{gather}
 use Rattle.ground.specs.Buckets.{bucket}
 use Rattle.columns.specs.declared.unchecked.Sign.{Sign}
-use Rattle.columns.specs.Refusals.{done}
 use Rattle.columns.specs.Columns.{Columns, columnCount, Keeps}
 use Rattle.columns.specs.Sums.{RowTerm, product, joined}
 use Rattle.blocks.specs.Sides.{sideOf}
@@ -19,7 +17,7 @@ use Rattle.plan.specs.Lists.{startsOf}
 use Rattle.plan.specs.Spans.{chunkCount, chunkSpans, sideSpans, Spread}
 use Rattle.plan.specs.SpanWalk.{Chunked}
 use Rattle.plan.specs.Plan.{Buffers}
-use Rattle.products.specs.Orders.{spanTerms, served, spanCount, Swept, stepOf, startRows}
+use Rattle.products.specs.Orders.{spanTerms, served, spanCount}
 
 -- ---- one row
 
@@ -79,14 +77,3 @@ pub record Lengths (chunks : ℕ) (s : Spread) : Type 0 where
 pub record Serves (chunks : ℕ) (s : Spread) (order : List ℕ) : Type 0 where
   pub each : (c : ℕ) → c < chunks → served order c (length order) ≡ spanCount s c
   pub only : (i : ℕ) → i < length order → getD order i 0 < chunks
-
--- ---- steps along a work order
-
--- the steps of an order's places up to k: each on the rows and the progress that the one before left, where all else lent stays the same
-unfoldable pub stepsTo : Bool → Columns → List ℕ → List ℕ → ℕ → List ℕ → List Float → Spread → List ℕ → ℕ → Swept → Swept
-stepsTo e m kept elims len map v s order k w =
-    range (λ i (w : Swept). stepOf e m kept elims len map v s (w .rows) (w .progress) (getD order i 0)) 0 k w
-
--- before the first step: a sweep's starting rows, and progress zero
-abbrev pub unstepped : Bool → Columns → ℕ → List ℕ → List Float → Swept
-unstepped e m len map rows = record { told = done; map = map; rows = startRows e rows; progress = replicate (chunkCount (m .nrows) len) 0 }
