@@ -1,32 +1,41 @@
 -- The built-in hall with L = 2 is what demand 3 speaks of: its lists are the plans of its sides, and order 2, 0, 1 is accepted, so that it makes
 -- the rows of the undivided sweep. They are case 3's. Assumes nothing.
 use mathlib.Core.Path.{_≡_, refl, _∙_}
-use mathlib.Core.Bool.{true, false}
+use mathlib.Core.Bool.{Bool, true, false}
 use mathlib.Core.List.{List, [], _∷_}
 use Prim.Native.Nat.{ℕ}
 use native.Mathlib.Omega.{arith}
 use lib.IntN.{pos, negsuc}
-use lib.ListN.{replicate}
+use lib.ListN.{length, replicate}
 use lib.Ieee.{Float, binary64, ofInt, ofBits, add, sub, mul, eq}
 use Rattle.ground.specs.First.{first, firstN}
 use Rattle.ground.specs.Gather.{gather, gatherN}
 use Rattle.ground.specs.Fold.{folded}
 use Rattle.columns.specs.declared.unchecked.Sign.the-variants.{Plus, Minus}
 use Rattle.columns.specs.Refusals.{Passes, done, onPass}
-use Rattle.columns.specs.Lengths.{pairBad, pairsTold}
+use Rattle.columns.specs.Lengths.{pairBad, pairsTold, noRoom}
 use Rattle.columns.specs.Columns.{Columns, columnsOf, firstIn, endIn, tooBig, falls, badShape, rowBad, rowFalls, columnBad, badRow, checked}
 use Rattle.columns.specs.Sums.{joined, landed, sweptOn}
 use Rattle.columns.specs.JacobianOps.{landing, landings}
 use Rattle.blocks.specs.Sides.{blockColumns, offsetOf}
 use Rattle.blocks.specs.Claims.{tooMany, isOdd, listsTold, emptySide, earlyTold, blockClaims, placeOf, claimBad, walkTold, gapTold, blocksTold, BlocksKeep}
 use Rattle.blocks.proofs.PartLaws.{passes-parted}
-use Rattle.plan.specs.Spans.{chunkTold, chunkCount, inChunk, placeIn, pastLast, columnSpan, localSpans, Spread}
+use Rattle.columns.proofs.CallLaws.{room-right}
+use Rattle.blocks.specs.Sides.{sideOf}
+use Rattle.plan.specs.Owners.{sideEntries, entryAt, columnEntries, blockEntries, holder, clashes, connectedTold, Connects}
+use Rattle.plan.specs.Plan.{Buffers, buffers, room, planLeft}
+use Rattle.plan.proofs.ConnectedLaws.{connects-told}
+use Rattle.plan.proofs.PlanLaws.{Sound}
+use Rattle.plan.specs.Spans.{sideSpans, chunkTold, chunkCount, inChunk, placeIn, pastLast, columnSpan, localSpans, Spread}
 use Rattle.plan.specs.SpanWalk.{Chunked}
 use Rattle.products.specs.Orders.{entryOut, spanBad, chunkBad, startsBad, planBad, badPlan, spanCount, served, hasNext, placeBad, chunkLeft, badOrder, orderTerms, sweepTold₁₄}
 use Rattle.products.specs.SideSums.{sideTerms}
 use Rattle.products.specs.Steps.{stepsOf}
-use Rattle.undivided.specs.Undivided.{Planned, SidePlanned}
-use Rattle.undivided.proofs.Demand3.{rows-of-order}
+use Rattle.products.specs.Operator.{operated}
+use Rattle.undivided.specs.Plain.{plainOperated}
+use Rattle.undivided.specs.Undivided.{Planned, SidePlanned, cut, listsOf}
+use Rattle.undivided.proofs.OperatorLaws.{operator-plain}
+use Rattle.undivided.proofs.Demand3.{left-planned, rows-of-order}
 use Rattle.undivided.proofs.StepLaws.{steps-undivided}
 
 abbrev f : ℕ → Float
@@ -119,3 +128,31 @@ kept-steps = steps-undivided false hall kept elims 2 (replicate 3 0) (f 2 ∷ []
 pub elims-steps : stepsOf true hall kept elims 2 (replicate 3 0) (f 3 ∷ f 5 ∷ []) elimsLists firstRows order 3 .rows
     ≡ ofInt binary64 (negsuc 0) ∷ f 1 ∷ f 0 ∷ ofInt binary64 (negsuc 3) ∷ f 3 ∷ []
 elims-steps = steps-undivided true hall kept elims 2 (replicate 3 0) (f 3 ∷ f 5 ∷ []) elimsLists firstRows (replicate 3 0) order elims-sweep elims-planned ∙ elims-undivided
+
+-- ---- the plan's law and the operator's speak of it too
+
+-- buffers of just the room that it needs
+abbrev lent : Buffers
+lent = buffers (replicate 3 0) (replicate 3 0) (replicate 3 0) (replicate 3 0) (replicate 5 0) (replicate 5 0) (replicate 3 0) (replicate 8 0) (replicate 2 0) (replicate 4 0) (replicate 8 0) (replicate 8 0) (replicate 8 0) (replicate 4 0) (replicate 8 0) (replicate 8 0) (replicate 8 0)
+
+hall-room : Passes (noRoom (room hall kept elims 2 lent))
+unfolding firstN first pairBad pairsTold chunkCount room
+hall-room = refl
+
+pub hall-sound : Sound hall kept elims 2 lent
+hall-sound = record { keeps = hall-keep .keeps; parted = hall-keep .parted; some-len = omega arith; few-len = omega arith; roomy = room-right (room hall kept elims 2 lent) hall-room }
+
+hall-apart : connectedTold (sideEntries hall elims) .number ≡ 0
+unfolding firstN first gatherN gather firstIn endIn entryAt columnEntries blockEntries holder clashes connectedTold
+hall-apart = refl
+
+pub hall-unconnected : Connects hall elims → ⊥
+hall-unconnected c = let q = connects-told hall elims c in let z = hall-apart in omega arith
+
+-- so its lists are what planning leaves, cut to their used parts, and over them the operator is document 01's sums without spans
+pub hall-left : (e : Bool) → SidePlanned hall kept elims e 2 (cut 3 (length (sideSpans hall (sideOf e kept elims) 2)) (listsOf e (planLeft hall kept elims 2 lent)))
+unfolding chunkCount
+hall-left e = left-planned hall kept elims 2 lent hall-sound hall-unconnected e
+
+pub hall-operator : (v inverses d : List Float) → operated hall kept elims (record { v = v; inverses = inverses; d = d; kept = keptLists; elims = elimsLists }) ≡ plainOperated hall kept elims v inverses d
+hall-operator v inverses d = operator-plain hall kept elims 2 (record { v = v; inverses = inverses; d = d; kept = keptLists; elims = elimsLists }) kept-planned elims-planned

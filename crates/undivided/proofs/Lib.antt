@@ -7,5 +7,5 @@ pub mod OrderTerms
 pub mod PlanPasses
 pub mod Demand3
 pub mod StepLaws
-pub mod Hall
 pub mod OperatorLaws
+pub mod Hall
