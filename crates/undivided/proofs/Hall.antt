@@ -1,13 +1,13 @@
 -- The built-in hall with L = 2 is what demand 3 speaks of: its lists are the plans of its sides, and order 2, 0, 1 is accepted, so that it makes
 -- the rows of the undivided sweep. They are case 3's. Assumes nothing.
-use mathlib.Core.Path.{_≡_, refl, _∙_}
+use mathlib.Core.Path.{_≡_, refl, ap, _∙_}
 use mathlib.Core.Bool.{Bool, true, false}
 use mathlib.Core.List.{List, [], _∷_}
 use Prim.Native.Nat.{ℕ}
 use native.Mathlib.Omega.{arith}
 use lib.IntN.{pos, negsuc}
 use lib.ListN.{length, replicate}
-use lib.Ieee.{Float, binary64, ofInt, ofBits, add, sub, mul, eq}
+use lib.Ieee.{Float, binary64, ofInt, ofBits, neg, add, sub, mul, eq}
 use Rattle.ground.specs.First.{first, firstN}
 use Rattle.ground.specs.Gather.{gather, gatherN}
 use Rattle.ground.specs.Fold.{folded}
@@ -15,10 +15,11 @@ use Rattle.columns.specs.declared.unchecked.Sign.the-variants.{Plus, Minus}
 use Rattle.columns.specs.Refusals.{Passes, done, onPass}
 use Rattle.columns.specs.Lengths.{pairBad, pairsTold, noRoom}
 use Rattle.columns.specs.Columns.{Columns, columnsOf, firstIn, endIn, tooBig, falls, badShape, rowBad, rowFalls, columnBad, badRow, checked}
-use Rattle.columns.specs.Sums.{joined, landed, sweptOn}
-use Rattle.columns.specs.JacobianOps.{landing, landings}
+use Rattle.columns.specs.Sums.{addTerm, joined, landed, sweptOn}
+use Rattle.columns.specs.JacobianOps.{entryTerm, landing, landings}
 use Rattle.blocks.specs.Sides.{blockColumns, offsetOf}
 use Rattle.blocks.specs.Claims.{tooMany, isOdd, listsTold, emptySide, earlyTold, blockClaims, placeOf, claimBad, walkTold, gapTold, blocksTold, BlocksKeep}
+use Rattle.blocks.specs.Access.{squareOf, squaresBefore, entryPlace}
 use Rattle.blocks.proofs.PartLaws.{passes-parted}
 use Rattle.columns.proofs.CallLaws.{room-right}
 use Rattle.blocks.specs.Sides.{sideOf}
@@ -29,9 +30,9 @@ use Rattle.plan.proofs.PlanLaws.{Sound}
 use Rattle.plan.specs.Spans.{sideSpans, chunkTold, chunkCount, inChunk, placeIn, pastLast, columnSpan, localSpans, Spread}
 use Rattle.plan.specs.SpanWalk.{Chunked}
 use Rattle.products.specs.Orders.{entryOut, spanBad, chunkBad, startsBad, planBad, badPlan, spanCount, served, hasNext, placeBad, chunkLeft, badOrder, orderTerms, sweepTold₁₄}
-use Rattle.products.specs.SideSums.{sideTerms}
+use Rattle.products.specs.SideSums.{sideTerms, sideGather, inverseTerm, inverseEntry, inverseBlock}
 use Rattle.products.specs.Steps.{stepsOf}
-use Rattle.products.specs.Operator.{operated}
+use Rattle.products.specs.Operator.{Work, dampTerm, keptSum, operated}
 use Rattle.undivided.specs.Plain.{plainOperated}
 use Rattle.undivided.specs.Undivided.{Planned, SidePlanned, cut, listsOf}
 use Rattle.undivided.proofs.OperatorLaws.{operator-plain}
@@ -156,3 +157,25 @@ hall-left e = left-planned hall kept elims 2 lent hall-sound hall-unconnected e
 
 pub hall-operator : (v inverses d : List Float) → operated hall kept elims (record { v = v; inverses = inverses; d = d; kept = keptLists; elims = elimsLists }) ≡ plainOperated hall kept elims v inverses d
 hall-operator v inverses d = operator-plain hall kept elims 2 (record { v = v; inverses = inverses; d = d; kept = keptLists; elims = elimsLists }) kept-planned elims-planned
+
+-- case 3: rows, t, u and out, and out with damping 0.5
+abbrev inverses : List Float
+inverses = ofBits binary64 0x3FE0_0000_0000_0000 ∷ ofBits binary64 0x3FD0_0000_0000_0000 ∷ []
+
+abbrev minus : ℕ → Float
+minus n = ofInt binary64 (negsuc n)
+
+plain-case : plainOperated hall kept elims (f 2 ∷ []) inverses [] ≡ record { rows = minus 0 ∷ f 1 ∷ f 0 ∷ minus 3 ∷ f 3 ∷ []; t = f 6 ∷ f 20 ∷ []; u = f 3 ∷ f 5 ∷ []; out = f 1 ∷ [] }
+unfolding ofInt ofBits neg add sub mul eq firstN first gatherN gather folded firstIn endIn blockColumns offsetOf addTerm joined landed entryTerm landing landings squareOf squaresBefore entryPlace inverseTerm inverseEntry inverseBlock sideTerms sideGather dampTerm keptSum plainOperated
+plain-case = refl
+
+damped-case : plainOperated hall kept elims (f 2 ∷ []) inverses (ofBits binary64 0x3FE0_0000_0000_0000 ∷ []) .out ≡ f 2 ∷ []
+unfolding ofInt ofBits neg add sub mul eq firstN first gatherN gather folded firstIn endIn blockColumns offsetOf addTerm joined landed entryTerm landing landings squareOf squaresBefore entryPlace inverseTerm inverseEntry inverseBlock sideTerms sideGather dampTerm keptSum plainOperated
+damped-case = refl
+
+pub case-three : operated hall kept elims (record { v = f 2 ∷ []; inverses = inverses; d = []; kept = keptLists; elims = elimsLists })
+    ≡ record { rows = minus 0 ∷ f 1 ∷ f 0 ∷ minus 3 ∷ f 3 ∷ []; t = f 6 ∷ f 20 ∷ []; u = f 3 ∷ f 5 ∷ []; out = f 1 ∷ [] }
+case-three = hall-operator (f 2 ∷ []) inverses [] ∙ plain-case
+
+pub case-three-damped : operated hall kept elims (record { v = f 2 ∷ []; inverses = inverses; d = ofBits binary64 0x3FE0_0000_0000_0000 ∷ []; kept = keptLists; elims = elimsLists }) .out ≡ f 2 ∷ []
+case-three-damped = ap (λ (w : Work). w .out) (hall-operator (f 2 ∷ []) inverses (ofBits binary64 0x3FE0_0000_0000_0000 ∷ [])) ∙ damped-case
