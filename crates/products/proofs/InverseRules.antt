@@ -22,7 +22,8 @@ use Rattle.blocks.proofs.AccessRules.{in-square, squares-first}
 use Rattle.blocks.proofs.ValueRules.{put-all, squares-within}
 use Rattle.products.specs.SideSums.{inverseTerm, inverseEntry, inverseBlock, inverseTimes}
 use Rattle.products.specs.SideFits.{blockTerm, blockRow, RowFits, TermFits, RowsFit, InversesFit}
-use Rattle.products.proofs.SideRules.{first-place, places-in}
+use Rattle.plan.proofs.ColumnRules.{first-place}
+use Rattle.products.proofs.SideRules.{places-in}
 
 -- ---- one term, one row
 

@@ -1,7 +1,7 @@
 -- What the code of src/side_sums.rt shows of a side's sweep and gathers: block after block, each column by its local number. Assumes nothing.
 use mathlib.Core.Path.{_≡_, refl, sym, ap, _∙_}
 use mathlib.Core.List.{List}
-use Prim.Native.Nat.{ℕ, suc, _+_, _-_, _≤_, _<_}
+use Prim.Native.Nat.{ℕ, _+_, _-_, _≤_, _<_}
 use native.Mathlib.Omega.{arith}
 use lib.ListN.{length, getD, set}
 use lib.Ieee.{Float, nan}
@@ -19,18 +19,11 @@ use Rattle.columns.specs.Unchecked.{HasColumn}
 use Rattle.columns.proofs.CheckLaws.{has-column}
 use Rattle.blocks.specs.Sides.{blockCount, firstOf, dofOf, cols, offsetOf, sideDof}
 use Rattle.blocks.proofs.SideLaws.{cols-at, offset-next}
+use Rattle.plan.proofs.ColumnRules.{first-place, next-place}
 use Rattle.products.specs.SideSums.{columnAt, sideTerms, sideGather}
 use Rattle.products.specs.SideFits.{localTerms, localSum, written, SideFits, BlockFits, DofsFit}
 
 -- ---- how far the blocks have come: at is the next one's first place
-
-pub first-place : (side : List ℕ) → 0 ≡ offsetOf side 0
-unfolding offsetOf
-first-place side = refl
-
-pub next-place : (side : List ℕ) (b at dof : ℕ) → at ≡ offsetOf side b → dof ≡ dofOf side b → at + dof ≡ offsetOf side (b + 1)
-unfolding offsetOf
-next-place side b at dof e d = let q : b + 1 ≡ suc b = omega arith in rw (q, e, d)
 
 pub all-places : (side : List ℕ) (b at : ℕ) → at ≡ offsetOf side b → b ≤ blockCount side → blockCount side ≤ b → at ≡ sideDof side
 all-places side b at e h l = let q : b ≡ blockCount side = omega arith in e ∙ ap (λ (k : ℕ). offsetOf side k) q

@@ -5,7 +5,6 @@ use mathlib.Core.Bool.{Bool, true, false, not}
 use mathlib.Core.List.{List, [], _∷_, _++_}
 use Prim.Native.Nat.{ℕ, _+_, _-_, _*_, _≤_, _<_}
 use native.Mathlib.Nat.{le-trans, div-le-self, div-mul-le-self}
-use native.Mathlib.Numerals.{add-one}
 use native.Mathlib.Omega.{arith}
 use lib.Dec.{leb, ltb}
 use lib.ListN.{length, getD, drop, replicate, length-append}
@@ -25,7 +24,7 @@ use Rattle.columns.specs.Columns.{Columns, columnCount, entryCount, firstIn, en
 use Rattle.columns.proofs.RefusalLaws.{pass-refused, pass-done, both-pass, passed, or-refused, or-done, or-assoc}
 use Rattle.columns.proofs.CheckLaws.{or-false, passes-keeps}
 use Rattle.columns.proofs.CallLaws.{lengths-right, room-right}
-use Rattle.blocks.specs.Sides.{blockCount, dofOf, offsetOf, sideDof, sideOf}
+use Rattle.blocks.specs.Sides.{sideDof, sideOf}
 use Rattle.blocks.specs.Claims.{mark, marked, claims, placeOf, partsTold, Mapped, Parted}
 use Rattle.blocks.specs.Walk.{Roomy, walkBlocks}
 use Rattle.blocks.proofs.CallRules.{parts-passes}
@@ -34,27 +33,18 @@ use Rattle.blocks.proofs.WalkRules.{marked-all}
 use Rattle.plan.specs.Spans.{chunkTold, chunkCount, inChunk, Spread}
 use Rattle.plan.specs.SpanWalk.{Chunked}
 use Rattle.plan.proofs.ChunkLaws.{chunk-passes}
+use Rattle.plan.proofs.SideSpanLaws.{side-dof}
 use Rattle.products.specs.declared.side.Side.{Side}
 use Rattle.products.specs.declared.side.Side.the-variants.{Kept, Eliminated}
 use Rattle.products.specs.Orders.{entryOut, spanBad, chunkBad, startsBad, planBad, badPlan, earlyChunked, lateBlocks}
 use Rattle.products.specs.Side.{eliminated}
 use Rattle.products.specs.PlanCheck.{rowsOnly, startsOut, planTold, PlanThere}
 use Rattle.products.specs.OrderWalk.{SpansFit, PlanFits}
-use Rattle.products.specs.SweepCheck.{chunkedLeft, checkChunked, lentLengths, lentTold, checksTold, checkSweep, FewBlocks, FewSides}
+use Rattle.products.specs.SweepCheck.{chunkedLeft, checkChunked, lentLengths, lentTold, checksTold, checkSweep, FewSides}
+use Rattle.products.specs.SideFits.{DofsFit}
 use Rattle.products.proofs.PlanRules.{Rising, starts-rise, rising-within, rising-find}
 
 -- ---- a side's dof
-
-pub offset-more : (side : List ℕ) (b sum dof : ℕ) → sum ≡ offsetOf side b → dof ≡ dofOf side b → sum + dof ≡ offsetOf side (b + 1)
-unfolding offsetOf
-offset-more side b sum dof e q = rw (add-one b, e, q)
-
-pub offset-none : (side : List ℕ) → 0 ≡ offsetOf side 0
-unfolding offsetOf
-offset-none side = refl
-
-pub offset-all : (side : List ℕ) (b sum : ℕ) → b ≤ blockCount side → blockCount side ≤ b → sum ≡ offsetOf side b → sum ≡ sideDof side
-offset-all side b sum l h e = let q : b ≡ blockCount side = omega arith in e ∙ ap (offsetOf side) q
 
 pub side-kept : (side : Side) (kept elims : List ℕ) (r : ℕ) → side ≡ Kept → r ≡ sideDof kept → r ≡ sideDof (sideOf (eliminated side) kept elims)
 side-kept side kept elims r e q = rw e q
@@ -62,11 +52,11 @@ side-kept side kept elims r e q = rw e q
 pub side-elims : (side : Side) (kept elims : List ℕ) (r : ℕ) → side ≡ Eliminated → r ≡ sideDof elims → r ≡ sideDof (sideOf (eliminated side) kept elims)
 side-elims side kept elims r e q = rw e q
 
-pub few-kept : (kept elims : List ℕ) → FewSides kept elims → FewBlocks kept
-few-kept kept elims f = record { few = f .kept-few }
+pub few-kept : (kept elims : List ℕ) → FewSides kept elims → DofsFit kept
+few-kept kept elims f = f .kept-few
 
-pub few-elims : (kept elims : List ℕ) → FewSides kept elims → FewBlocks elims
-few-elims kept elims f = record { few = f .elims-few }
+pub few-elims : (kept elims : List ℕ) → FewSides kept elims → DofsFit elims
+few-elims kept elims f = f .elims-few
 
 -- ---- 1 to 9
 
@@ -225,7 +215,9 @@ module _ (e : Bool) (m : Columns) (kept elims : List ℕ) (len : ℕ) (map : Lis
     sweep-chunked = chunked-passes m kept elims len map t map′ call d .chunked
 
     pub sweep-sides : FewSides kept elims
-    sweep-sides = let p = chunked-passes m kept elims len map t map′ call d .parted in record { kept-few = p .right false .few; elims-few = p .right true .few }
+    sweep-sides =
+        let p = chunked-passes m kept elims len map t map′ call d in
+        record { kept-few = record { few = side-dof m kept elims (p .keeps) (p .parted) false }; elims-few = record { few = side-dof m kept elims (p .keeps) (p .parted) true } }
 
     -- dof is what the code counted, and l what `check_lent` answered
     module _ (dof : ℕ) (l : Answer) (count : dof ≡ sideDof (sideOf e kept elims)) (lent : told l ≡ lentTold e (m .nrows) (rowsOnly (m .rows)) dof len nv s ny np) where
@@ -348,9 +340,6 @@ module _ (e : Bool) (m : Columns) (kept elims : List ℕ) (len : ℕ) (map : Lis
 
 pub ruleset sweeping = (
   needs,
-  offset-more,
-  offset-none,
-  offset-all,
   side-kept,
   side-elims,
   few-kept,

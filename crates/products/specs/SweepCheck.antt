@@ -1,16 +1,17 @@
 -- The checks that steps and sweeps have in common, as src/sweep_check.rt makes them. Assumes nothing.
 use mathlib.Core.Bool.{Bool}
 use mathlib.Core.List.{List, [], _∷_}
-use Prim.Native.Nat.{ℕ, _+_, _≤_}
+use Prim.Native.Nat.{ℕ, _+_}
 use lib.ListN.{length}
 use Rattle.columns.specs.Refusals.{Told, orElse}
 use Rattle.columns.specs.Lengths.{wrongLength}
 use Rattle.columns.specs.Columns.{Columns, columnCount}
-use Rattle.blocks.specs.Sides.{blockCount, sideDof, sideOf}
+use Rattle.blocks.specs.Sides.{sideDof, sideOf}
 use Rattle.blocks.specs.Claims.{claims, mapAfter, Mapped}
 use Rattle.plan.specs.Spans.{chunkCount, Spread}
 use Rattle.products.specs.Orders.{badPlan, earlyChunked, lateBlocks}
 use Rattle.products.specs.PlanCheck.{planTold}
+use Rattle.products.specs.SideFits.{DofsFit}
 
 -- 1 to 9 of a call with a chunk length, and the map that they leave
 abbrev pub chunkedTold : Columns → List ℕ → List ℕ → ℕ → List ℕ → Told
@@ -56,10 +57,7 @@ checkSweep e m kept elims len map nv s ny np = record {
 
 -- ---- what its functions ask
 
--- a side's blocks are few
-pub record FewBlocks (side : List ℕ) : Type 0 where
-  pub few : blockCount side ≤ 65_536
-
+-- both sides' dofs are few
 pub record FewSides (kept elims : List ℕ) : Type 0 where
-  pub kept-few : blockCount kept ≤ 65_536
-  pub elims-few : blockCount elims ≤ 65_536
+  pub kept-few : DofsFit kept
+  pub elims-few : DofsFit elims

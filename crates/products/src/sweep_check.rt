@@ -1,6 +1,7 @@
 // The checks that steps and sweeps have in common: refusals 1 to 9 with a chunk length, 11 and 13. After 11 or 13 the map is marked.
 use crate::plan_check::check_plan;
 use crate::side::Side;
+use crate::side_sums::side_dof;
 use blocks::check::check_parts;
 use blocks::check::mark_map;
 use blocks::check::walk_blocks;
@@ -9,39 +10,26 @@ use columns::refusal::Answer;
 use columns::refusal::no_room;
 use columns::refusal::or_else;
 use columns::refusal::wrong_length;
-use ground::wide;
 use plan::spans::check_chunk;
 use plan::spans::chunk_count;
 ghost use mathlib.Core.Path.{_≡_};
 ghost use lib.ListN.{length};
 ghost use Rattle.columns.specs.Refusals.{told};
 ghost use Rattle.columns.specs.Columns.{columnsOf};
-ghost use Rattle.blocks.specs.Sides.{offsetOf, sideDof, sideOf};
+ghost use Rattle.blocks.specs.Sides.{sideDof, sideOf};
 ghost use Rattle.plan.specs.SpanWalk.{Chunked};
 ghost use Rattle.products.specs.Side.{eliminated};
 ghost use Rattle.products.specs.PlanCheck.{rowsOnly};
-ghost use Rattle.products.specs.SweepCheck.{checkChunked, lentTold, checkSweep, FewBlocks, FewSides};
+ghost use Rattle.products.specs.SweepCheck.{checkChunked, lentTold, checkSweep, FewSides};
 
-// The dof of a side, which is what its blocks' dofs add up to. There are few enough blocks that the sum fits.
-fn count_dofs(side: &[u32]) -> usize
-    requires { ⌜ FewBlocks (now side) ⌝ }
-    ensures { λ r. ⌜ r ≡ sideDof (now (side .entry)) ⌝ }
-{
-    let mut sum: usize = 0;
-    let count = side.len() / 2;
-    for b in 0..count {
-        sum = sum + wide(side[b + b + 1]);
-    }
-    sum
-}
-
-fn side_dof(side: Side, kept: &[u32], elims: &[u32]) -> usize
+// The dof of the side that a call is for.
+fn dof_of(side: Side, kept: &[u32], elims: &[u32]) -> usize
     requires { ⌜ FewSides (now kept) (now elims) ⌝ }
     ensures { λ r. ⌜ r ≡ sideDof (sideOf (eliminated side) (now (kept .entry)) (now (elims .entry))) ⌝ }
 {
     match side {
-        Side::Kept => count_dofs(kept),
-        Side::Eliminated => count_dofs(elims),
+        Side::Kept => side_dof(kept),
+        Side::Eliminated => side_dof(elims),
     }
 }
 
@@ -135,7 +123,7 @@ pub(crate) fn check_sweep(
     if let Answer::Refused(r) = checked {
         return Answer::Refused(r);
     }
-    let dof = side_dof(side, kept, elims);
+    let dof = dof_of(side, kept, elims);
     let lent = check_lent(
         side,
         nrows,

@@ -7,7 +7,8 @@ use Rattle.columns.specs.Columns.{columnsOf}
 use Rattle.blocks.specs.Sides.{offsetOf, sideDof}
 use Rattle.products.specs.SideSums.{sideGather}
 use Rattle.products.specs.SideFits.{localSum, written}
-use Rattle.products.proofs.SideRules.{blocks-gathered, places-in, next-place, siding}
+use Rattle.plan.proofs.ColumnRules.{next-place}
+use Rattle.products.proofs.SideRules.{blocks-gathered, places-in, siding}
 use Rattle.products.proofs.side_sums.gather_side.Statement.{statement}
 use Rattle.products.proofs.side_sums.gather_side.Tie as tie
 

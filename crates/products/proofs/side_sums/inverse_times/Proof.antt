@@ -9,7 +9,7 @@ use Rattle.blocks.specs.Sides.{offsetOf}
 use Rattle.blocks.specs.Access.{squaresBefore}
 use Rattle.blocks.specs.BlockValues.{writing, put}
 use Rattle.products.specs.SideSums.{inverseBlock, inverseTimes}
-use Rattle.products.proofs.SideRules.{next-place}
+use Rattle.plan.proofs.ColumnRules.{next-place}
 use Rattle.products.proofs.InverseRules.{rows-fit, inverses-turn, inverting}
 use Rattle.blocks.proofs.ValueRules.{squares-after}
 use Rattle.products.proofs.side_sums.inverse_times.Statement.{statement}

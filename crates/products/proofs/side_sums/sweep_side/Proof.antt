@@ -10,7 +10,8 @@ use Rattle.columns.specs.Sums.{landed, sweptOn}
 use Rattle.blocks.specs.Sides.{offsetOf, sideDof}
 use Rattle.products.specs.SideSums.{sideTerms}
 use Rattle.products.specs.SideFits.{localTerms}
-use Rattle.products.proofs.SideRules.{blocks-swept, places-in, next-place, siding}
+use Rattle.plan.proofs.ColumnRules.{next-place}
+use Rattle.products.proofs.SideRules.{blocks-swept, places-in, siding}
 use Rattle.products.proofs.side_sums.sweep_side.Statement.{statement}
 use Rattle.products.proofs.side_sums.sweep_side.Tie as tie
 
