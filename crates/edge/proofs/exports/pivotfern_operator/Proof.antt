@@ -1,0 +1,23 @@
+-- `edge::exports::pivotfern_operator` meets its contract: the operator's promise, with its answer carried across. Assumes nothing.
+use mathlib.Core.Path.{ap, _∙_}
+use borrow.Author.Needs.{needs}
+use Rattle.columns.specs.Refusals.{told}
+use Rattle.edge.specs.Edge.{operatorExport}
+use Rattle.edge.proofs.EdgeLaws.{exports}
+use Rattle.edge.proofs.exports.pivotfern_operator.Statement.{statement}
+use Rattle.edge.proofs.exports.pivotfern_operator.Tie as tie
+
+returns : tie.Need-returns
+returns c =
+    let p = c .before .before .before .before .before .before .before .before .before .before .before .before .before .apply-schur-operator in
+    exports _ (told (p .result)) _ (c .cross-answer .ensures) ∙ ap operatorExport (p .ensures)
+
+pub pivotfern-operator-spec : {M : Type 1} → statement M
+pivotfern-operator-spec =
+    tie.close (tie.spec (λ c κs. search needs) (λ c κs. search needs)
+    (λ c. c .before .before .before .before .before .before .before .before .before .before .before .before .before .apply-schur-operator .kept .1 .1 .1 .1 .1 .1 .0)
+    (λ c. c .before .before .before .before .before .before .before .before .before .before .before .before .before .apply-schur-operator .kept .1 .1 .1 .1 .1 .1 .1 .1 .1 .1 .1 .1 .1 .1 .1 .1 .1 .1 .1 .0)
+    (λ c. c .before .before .before .before .before .before .before .before .before .before .before .before .before .apply-schur-operator .kept .1 .1 .1 .1 .1 .1 .1 .1 .1 .1 .1 .1 .1 .1 .1 .1 .1 .1 .1 .1 .0)
+    (λ c. c .before .before .before .before .before .before .before .before .before .before .before .before .before .apply-schur-operator .kept .1 .1 .1 .1 .1 .1 .1 .1 .1 .1 .1 .1 .1 .1 .1 .1 .1 .1 .1 .1 .1 .0)
+    (λ c. c .before .before .before .before .before .before .before .before .before .before .before .before .before .apply-schur-operator .kept .1 .1 .1 .1 .1 .1 .1 .1 .1 .1 .1 .1 .1 .1 .1 .1 .1 .1 .1 .1 .1 .1 .0)
+    returns)
