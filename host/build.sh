@@ -99,6 +99,8 @@ archives() {
         echo "Write it with \`rt staticlib $n\` in the repository, or name its folder in PIVOTFERN_LIB." >&2
         exit 1
     done
+    # a changed archive is a changed build
+    sum=$(cat "$lib/libedge.a" "$lib/libedge_compare.a" | sha256sum | cut -d' ' -f1)
 }
 
 case $verb in
@@ -117,7 +119,8 @@ cargo)
     RUSTC=$HB_HOME/rustc RUSTDOC=$HB_HOME/rustdoc CARGO_BUILD_TARGET=$T CARGO_TARGET_X86_64_UNKNOWN_LINUX_GNU_LINKER=$HB_HOME/cc \
         CARGO_TARGET_X86_64_UNKNOWN_LINUX_GNU_RUNNER="$here/build.sh run" \
         exec cargo --config "target.$T.pivotfern.rustc-link-search=['native=$lib']" \
-        --config "target.$T.pivotfern.rustc-link-lib=['static=edge', 'static=edge_compare']" "$@"
+        --config "target.$T.pivotfern.rustc-link-lib=['static=edge', 'static=edge_compare']" \
+        --config "target.$T.pivotfern.rustc-env.PIVOTFERN_ARCHIVES='$sum'" "$@"
     ;;
 run)
     # a backtrace reads /proc/self/maps too

@@ -204,9 +204,9 @@ fn main() -> Result<(), Box<dyn std::error::Error>> {
 
     // how far the rows are from what was seen, before and after: r + J·x, with J·x column by column
     let mut after = hall.residuals.clone();
-    for column in 0..columns.count() {
-        for place in hall.ptrs[column] as usize..hall.ptrs[column + 1] as usize {
-            after[hall.rows[place] as usize] += hall.values[place] * x[column];
+    for (bounds, x) in hall.ptrs.windows(2).zip(&x) {
+        for place in bounds[0] as usize..bounds[1] as usize {
+            after[hall.rows[place] as usize] += hall.values[place] * x;
         }
     }
     println!("The residual: {:.6} before, {:.6} after.", norm(&hall.residuals), norm(&after));
