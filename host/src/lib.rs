@@ -1,0 +1,32 @@
+//! The Rust side of Pivotfern.
+//!
+//! The proved crates are one archive of C functions on numbers and slices. This package gives them Rust's types: what a caller lends is
+//! borrowed, a refusal is an enum with words, and a [`Plan`] owns its lists. Nothing here is proved, so it is kept thin: it makes room, calls,
+//! and cuts lists to their used parts. Every check is on the other side.
+//!
+//! | module | what for |
+//! |---|---|
+//! | `ffi` | the declarations of the exports |
+//! | [`raw`] | the exports on slices, safe, with numbers as they come |
+//! | crate root | the calls with results of their own |
+//! | [`case`], [`answer`] | case files (docs/CASES.md): reading, answering, writing |
+
+#![deny(unsafe_code)]
+#![warn(missing_docs)]
+
+#[cfg(not(target_pointer_width = "64"))]
+compile_error!("counts cross the edge as 64-bit numbers");
+
+pub mod answer;
+mod calls;
+pub mod case;
+mod ffi;
+mod input;
+mod plan;
+pub mod raw;
+mod refusal;
+
+pub use calls::*;
+pub use input::*;
+pub use plan::Plan;
+pub use refusal::{Error, Refusal};
