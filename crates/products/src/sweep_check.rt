@@ -20,7 +20,7 @@ ghost use Rattle.blocks.specs.Sides.{sideDof, sideOf};
 ghost use Rattle.plan.specs.SpanWalk.{Chunked};
 ghost use Rattle.products.specs.Side.{eliminated};
 ghost use Rattle.products.specs.PlanCheck.{rowsOnly};
-ghost use Rattle.products.specs.SweepCheck.{checkChunked, lentTold, checkSweep, FewSides};
+ghost use Rattle.products.specs.SweepCheck.{checkChunked, lentSweep, checkSweep, FewSides};
 
 // The dof of the side that a call is for.
 fn dof_of(side: Side, kept: &[u32], elims: &[u32]) -> usize
@@ -72,7 +72,7 @@ fn check_lent(
     nprogress: usize,
 ) -> Answer
     requires { ⌜ Chunked nrows «chunk_len» ⌝ }
-    ensures { λ r. ⌜ told r ≡ lentTold (eliminated side) nrows (rowsOnly (now (rows .entry))) dof «chunk_len» nv (record { starts = now (starts .entry); lo = now (lo .entry); hi = now (hi .entry); local = now (local .entry) }) ny nprogress ⌝ }
+    ensures { λ r. ⌜ told r ≡ lentSweep (eliminated side) nrows (rowsOnly (now (rows .entry))) dof «chunk_len» nv (record { starts = now (starts .entry); lo = now (lo .entry); hi = now (hi .entry); local = now (local .entry) }) ny nprogress ⌝ }
 {
     let chunks = chunk_count(nrows, chunk_len);
     let spans = lo.len();
