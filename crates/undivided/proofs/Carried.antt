@@ -6,9 +6,8 @@ use mathlib.Core.Path.{_≡_, refl, sym, ap, _∙_, subst}
 use mathlib.Core.Bool.{Bool, true, false, cond}
 use mathlib.Core.List.{List, [], _∷_}
 use Prim.Native.Nat.{ℕ, zero, suc, _≤_, _<_}
-use native.Mathlib.Nat.{le-refl}
 use native.Mathlib.Omega.{arith}
-use lib.ListN.{length, getD, replicate, length-replicate}
+use lib.ListN.{length, getD, replicate}
 use lib.Ieee.{Float}
 use contract.Lifetimes.{Lfts}
 use denote.Triple.Clauses.{AtExit}
@@ -16,10 +15,10 @@ use borrow.Fn.Kinds.{endedOf}
 use borrow.Fn.World.{ArgsD}
 use Rattle.columns.specs.declared.refusal.Answer.{Answer}
 use Rattle.columns.specs.declared.refusal.Answer.the-variants.{Done}
-use Rattle.columns.specs.Refusals.{Told, tell, done, told, Passes}
+use Rattle.columns.specs.Refusals.{Told, tell, done, told, Passes, orElse}
+use Rattle.columns.specs.Lengths.{noRoom, wrongLength}
 use Rattle.columns.specs.Columns.{Columns, columnCount}
 use Rattle.columns.specs.Sums.{sweptOn}
-use Rattle.columns.specs.Lengths.{lengthOf, needOf}
 use Rattle.columns.proofs.RefusalLaws.{pass-done}
 use Rattle.blocks.specs.Sides.{sideOf}
 use Rattle.plan.specs.declared.structure.Planned.the-variants as planned
@@ -28,7 +27,7 @@ use Rattle.plan.specs.Spans.{chunkCount, sideSpans}
 use Rattle.plan.specs.Plan.{Buffers, planTold, planLeft}
 use Rattle.plan_laws.proofs.PlanLaws.{Sound, passes-sound, planned-unconnected, unconnected-planned}
 use Rattle.plan_laws.proofs.Determined.{plan-tells, plan-leaves}
-use Rattle.products.specs.Orders.{Swept, badOrder, orderTerms, signOf, startRows, stepOf, sweepOf, sweepLengths, stepOrder}
+use Rattle.products.specs.Orders.{Swept, badOrder, orderTerms, signOf, startRows, stepOf, stepOrder, sweepOf, sweepLengths}
 use Rattle.products.specs.SideSums.{sideTerms}
 use Rattle.products.specs.Steps.{stepsOf}
 use Rattle.products.specs.Operator.{Operated, operatorLengths, schurOperator}
@@ -39,8 +38,8 @@ use Rattle.undivided.proofs.OrderLaws.{accepted-serves, serves-accepted
 use Rattle.undivided.proofs.Demand3.{left-planned, terms-in-order}
 use Rattle.undivided.proofs.StepLaws.{order-passes, sweep-undivided, steps-undivided}
 use Rattle.undivided.proofs.OperatorLaws.{operator-plain}
-use Rattle.undivided.proofs.TellLaws.{tells-length, tells-plan, order-tells, sweep-tells, plan-places, sweep-fits, operator-tells, operator-places, operator-fits}
-use Rattle.plan_laws.proofs.CallParts.{planColumns, planKept, planElims, planLen, planLent, planLeaves}
+use Rattle.undivided.proofs.TellLaws.{tells-length, tells-plan, order-tells, place-tells, sweep-tells, plan-places, sweep-fits, operator-tells, operator-places, operator-fits}
+use Rattle.plan_laws.proofs.CallParts.{planColumns, planKept, planElims, planLen, planLent}
 use Rattle.product_laws.proofs.CallParts.{sweepSide, sweepMap, sweepVector, sweepRows, sweepProgress, sweepOrder, sweepRowsLeft, stepSide, stepMap, stepVector, stepRows, stepProgress, stepChunk, stepMapLeft, stepRowsLeft, stepProgressLeft, operatorMap, operatorOperands, operatorWork, operatorWorkLeft}
 use Rattle.undivided.proofs.Calls.{planOver, sweepOver, stepOver, operatorOver}
 use Rattle.plan.proofs.structure.plan.Reads as plan
@@ -98,24 +97,30 @@ module _ (κs : Lfts 14) (a : _) (t : _) (q : Answer) (post : sweep.Post κs a q
   abbrev chunks : ℕ
   chunks = chunkCount (l .columns .nrows) (l .len)
 
-  -- it tells 6 of its map, 11 of a length, or 14
+  abbrev order : Told
+  order = badOrder chunks (l .lists) (sweepOrder κs a)
+
+  abbrev lengths : List ℕ
+  lengths = sweepLengths (l .columns) side (l .len) (sweepVector κs a) (l .lists) (sweepRows κs a) (sweepProgress κs a)
+
   swept-told : told q ≡ sweepOf (sweepSide κs a) (l .columns) (l .kept) (l .elims) (l .len) (sweepMap κs a) (sweepVector κs a) (l .lists) (sweepRows κs a) (sweepProgress κs a) (sweepOrder κs a) .told
   swept-told = ap (λ (w : Swept). w .told) post
 
+  -- it tells 6 of its map, 11 of a length, or 14
+  pub sweep-told : told q ≡ orElse (noRoom (length (sweepMap κs a) ∷ columnCount (l .columns) ∷ [])) (orElse (wrongLength lengths) order)
+  unfolding sweepOf
+  sweep-told =
+      swept-told
+      ∙ sweep-tells (l .columns) (l .kept) (l .elims) (sweepSide κs a) (l .len) (l .lists) p (sweepMap κs a) (sweepVector κs a) (sweepRows κs a) (sweepProgress κs a) order
+
   -- it is never refused for its plan: 13 is not told, and 11 is not told of the plan's lists, which are places 1 to 4
   pub sweep-never-13 : told q .number ≡ 13 → ⊥
-  unfolding sweepOf
   sweep-never-13 e =
-      tells-plan (length (sweepMap κs a) ∷ columnCount (l .columns) ∷ []) (sweepLengths (l .columns) side (l .len) (sweepVector κs a) (l .lists) (sweepRows κs a) (sweepProgress κs a))
-      (badOrder chunks (l .lists) (sweepOrder κs a)) (order-tells chunks (l .lists) (sweepOrder κs a) 13 (omega arith) (omega arith))
-      (sym (ap (λ (w : Told). w .number) (swept-told ∙ sweep-tells (l .columns) (l .kept) (l .elims) (sweepSide κs a) (l .len) (l .lists) p (sweepMap κs a) (sweepVector κs a) (sweepRows κs a) (sweepProgress κs a) (badOrder chunks (l .lists) (sweepOrder κs a)))) ∙ e)
+      tells-plan (length (sweepMap κs a) ∷ columnCount (l .columns) ∷ []) lengths order (order-tells chunks (l .lists) (sweepOrder κs a) 13 (omega arith) (omega arith)) (sym (ap (λ (w : Told). w .number) sweep-told) ∙ e)
 
   pub sweep-never-11 : (place need : ℕ) → 1 ≤ place → place ≤ 4 → told q ≡ tell 11 (place ∷ need ∷ []) → ⊥
-  unfolding sweepOf
   sweep-never-11 place need low high e =
-      tells-length (length (sweepMap κs a) ∷ columnCount (l .columns) ∷ []) (sweepLengths (l .columns) side (l .len) (sweepVector κs a) (l .lists) (sweepRows κs a) (sweepProgress κs a))
-      (badOrder chunks (l .lists) (sweepOrder κs a)) (order-tells chunks (l .lists) (sweepOrder κs a) 11 (omega arith) (omega arith)) place need
-      (sym (swept-told ∙ sweep-tells (l .columns) (l .kept) (l .elims) (sweepSide κs a) (l .len) (l .lists) p (sweepMap κs a) (sweepVector κs a) (sweepRows κs a) (sweepProgress κs a) (badOrder chunks (l .lists) (sweepOrder κs a))) ∙ e)
+      tells-length (length (sweepMap κs a) ∷ columnCount (l .columns) ∷ []) lengths order (order-tells chunks (l .lists) (sweepOrder κs a) 11 (omega arith) (omega arith)) place need (sym sweep-told ∙ e)
       (plan-places (l .columns) (l .kept) (l .elims) (sweepSide κs a) (l .len) (l .lists) p (sweepMap κs a) (sweepVector κs a) (sweepRows κs a) (sweepProgress κs a) place low high)
 
   -- where all else fits it is accepted exactly if the order serves each chunk as often as it has spans, and names no other
@@ -129,7 +134,7 @@ module _ (κs : Lfts 14) (a : _) (t : _) (q : Answer) (post : sweep.Post κs a q
   unfolding sweepOf
   serves-sweep f x =
       swept-told
-      ∙ sweep-fits (l .columns) (l .kept) (l .elims) (sweepSide κs a) (l .len) (l .lists) p (sweepMap κs a) (sweepVector κs a) (sweepRows κs a) (sweepProgress κs a) f (badOrder chunks (l .lists) (sweepOrder κs a))
+      ∙ sweep-fits (l .columns) (l .kept) (l .elims) (sweepSide κs a) (l .len) (l .lists) p (sweepMap κs a) (sweepVector κs a) (sweepRows κs a) (sweepProgress κs a) f order
       ∙ serves-accepted chunks (l .lists) (sweepOrder κs a) x
 
   -- an accepted one hands each row the terms of the undivided sweep, in their order, and leaves the undivided sweep's rows
@@ -147,6 +152,34 @@ module _ (κs : Lfts 14) (a : _) (t : _) (q : Answer) (post : sweep.Post κs a q
         ∙ sweep-undivided (sweepSide κs a) (l .columns) (l .kept) (l .elims) (l .len) (sweepMap κs a) (sweepVector κs a) (l .lists) (sweepRows κs a) (sweepProgress κs a) (sweepOrder κs a) (sym swept-told ∙ ok) p
 
 -- ---- steps one after the other
+
+-- `step`, lent a side's plan, is never refused for it
+module _ (κs : Lfts 13) (a : _) (t : _) (q : Answer) (post : step.Post κs a q t) (p : PlannedOver (stepSide κs a) (stepOver κs a)) where
+  abbrev w : OverPlan
+  w = stepOver κs a
+
+  abbrev next : Told
+  next = stepOrder (chunkCount (w .columns .nrows) (w .len)) (w .lists) (stepChunk κs a) (stepProgress κs a)
+
+  abbrev stepLengths : List ℕ
+  stepLengths = sweepLengths (w .columns) (sideOf (stepSide κs a) (w .kept) (w .elims)) (w .len) (stepVector κs a) (w .lists) (stepRows κs a) (stepProgress κs a)
+
+  stepped-told : told q ≡ orElse (noRoom (length (stepMap κs a) ∷ columnCount (w .columns) ∷ [])) (orElse (wrongLength stepLengths) next)
+  unfolding stepOf
+  stepped-told =
+      ap (λ (o : Swept). o .told) post
+      ∙ sweep-tells (w .columns) (w .kept) (w .elims) (stepSide κs a) (w .len) (w .lists) p (stepMap κs a) (stepVector κs a) (stepRows κs a) (stepProgress κs a) next
+
+  pub step-never-13 : told q .number ≡ 13 → ⊥
+  step-never-13 e =
+      tells-plan (length (stepMap κs a) ∷ columnCount (w .columns) ∷ []) stepLengths next (place-tells (chunkCount (w .columns .nrows) (w .len)) (w .lists) (stepChunk κs a) (stepProgress κs a) 13 (omega arith) (omega arith))
+      (sym (ap (λ (o : Told). o .number) stepped-told) ∙ e)
+
+  pub step-never-11 : (place need : ℕ) → 1 ≤ place → place ≤ 4 → told q ≡ tell 11 (place ∷ need ∷ []) → ⊥
+  step-never-11 place need low high e =
+      tells-length (length (stepMap κs a) ∷ columnCount (w .columns) ∷ []) stepLengths next (place-tells (chunkCount (w .columns .nrows) (w .len)) (w .lists) (stepChunk κs a) (stepProgress κs a) 11 (omega arith) (omega arith)) place need
+      (sym stepped-told ∙ e)
+      (plan-places (w .columns) (w .kept) (w .elims) (stepSide κs a) (w .len) (w .lists) p (stepMap κs a) (stepVector κs a) (stepRows κs a) (stepProgress κs a) place low high)
 
 -- calls of `step`, place by place of an order: all else lent stays the same, and map, rows and progress are as the step before left them
 module _ (κs : ℕ → Lfts 13) (a : (i : ℕ) → ArgsD stepping.signature (κs i)) (t : (i : ℕ) → AtExit (endedOf 13 stepKinds.ps stepKinds.r) (κs i)) where

@@ -1,9 +1,9 @@
 -- Over a plan a sweep, a step and the operator are never refused for the plan: a map without room is 6, a vector or work buffer of other length is 11,
 -- and past these only the order can be refused, which is 14. Assumes nothing.
-use mathlib.Core.Path.{_≡_, refl, sym, ap, _∙_}
+use mathlib.Core.Path.{_≡_, refl, ap, _∙_}
 use mathlib.Core.Bool.{Bool, true, false, cond}
 use mathlib.Core.List.{List, [], _∷_}
-use Prim.Native.Nat.{ℕ, zero, suc, _+_, _/_, _≤_, _<_}
+use Prim.Native.Nat.{ℕ, zero, suc, _/_, _≤_, _<_}
 use native.Mathlib.Omega.{arith}
 use lib.Dec.{ltb}
 use lib.ListN.{length, getD}
@@ -11,7 +11,7 @@ use lib.Ieee.{Float}
 use borrow.Author.Tests.{le-ltb, ltb-true}
 use Rattle.ground.specs.First.{first, some}
 use Rattle.ground.proofs.FirstLaws.{first-bad, none-past}
-use Rattle.columns.specs.Refusals.{Told, tell, done, Passes, onPass, orElse}
+use Rattle.columns.specs.Refusals.{Told, tell, done, onPass, orElse}
 use Rattle.columns.specs.Lengths.{lengthOf, needOf, pairBad, badPair, pairsTold, noRoom, wrongLength}
 use Rattle.columns.specs.Columns.{Columns, columnCount, Keeps}
 use Rattle.columns.proofs.RefusalLaws.{or-done}
@@ -19,12 +19,12 @@ use Rattle.columns.proofs.CallLaws.{room-done}
 use Rattle.blocks.specs.Sides.{sideOf}
 use Rattle.blocks.specs.Claims.{Parted}
 use Rattle.blocks.proofs.PartLaws.{parted-parts, parted-late}
-use Rattle.plan.specs.Spans.{chunkTold, chunkCount, Spread}
+use Rattle.plan.specs.Spans.{chunkTold, Spread}
 use Rattle.plan.specs.SpanWalk.{Chunked}
 use Rattle.plan_laws.proofs.PlanLaws.{chunk-done}
 use Rattle.products.specs.Orders.{badPlan, hasNext, placeBad, chunkLeft, badOrder, stepOrder, earlyChunked, lateBlocks, sweepLengths, sweepTold}
 use Rattle.products.specs.Operator.{Operands, Work, operatorLengths, operatorTold}
-use Rattle.undivided.specs.Undivided.{SidePlanned, Lengths, SweepFits, OperatorFits}
+use Rattle.undivided.specs.Undivided.{SidePlanned, SweepFits, OperatorFits}
 use Rattle.undivided.proofs.Demand3.{plan-passes, plan-lengths}
 
 -- ---- 6 and 11
