@@ -22,7 +22,7 @@ use Rattle.columns.specs.Refusals.{Told, done, refused, told, Passes, onPass, o
 use Rattle.columns.specs.Lengths.{noRoom, wrongLength}
 use Rattle.columns.specs.Columns.{Columns, columnCount, entryCount, firstIn, endIn, Keeps}
 use Rattle.columns.proofs.RefusalLaws.{pass-refused, pass-done, both-pass, passed, or-refused, or-done, or-assoc}
-use Rattle.columns.proofs.CheckLaws.{or-false, passes-keeps}
+use Rattle.columns.proofs.CheckLaws.{or-false, passes-keeps, column-ascends}
 use Rattle.columns.proofs.CallLaws.{lengths-right, room-right}
 use Rattle.blocks.specs.Sides.{sideDof, sideOf}
 use Rattle.blocks.specs.Claims.{mark, marked, claims, placeOf, partsTold, Mapped, Parted}
@@ -38,11 +38,15 @@ use Rattle.products.specs.declared.side.Side.{Side}
 use Rattle.products.specs.declared.side.Side.the-variants.{Kept, Eliminated}
 use Rattle.products.specs.Orders.{entryOut, spanBad, chunkBad, startsBad, planBad, badPlan, earlyChunked, lateBlocks}
 use Rattle.products.specs.Side.{eliminated}
-use Rattle.products.specs.PlanCheck.{rowsOnly, startsOut, planTold, PlanThere}
+use Rattle.products.specs.PlanCheck.{Risen, rowsOnly, startsOut, planTold, PlanThere}
 use Rattle.products.specs.OrderWalk.{SpansFit, PlanFits}
 use Rattle.products.specs.SweepCheck.{chunkedLeft, checkChunked, lentLengths, lentSweep, checksTold, checkSweep, FewSides}
 use Rattle.products.specs.SideFits.{DofsFit}
 use Rattle.products.proofs.PlanRules.{Rising, starts-rise, rising-within, rising-find}
+
+-- columns that keep the rules rise
+pub risen-of : (m : Columns) → Keeps m → Risen (m .ptrs) (m .rows)
+risen-of m k = record { rise = λ j p q l low h high. column-ascends (k .sorted) j l p q low h high }
 
 -- ---- a side's dof
 
@@ -211,8 +215,9 @@ module _ (e : Bool) (m : Columns) (kept elims : List ℕ) (len : ℕ) (map : Lis
       rw (b, w)
 
   module _ (d : t ≡ Done) where
-    pub sweep-chunked : Chunked (m .nrows) len
-    sweep-chunked = chunked-passes m kept elims len map t map′ call d .chunked
+    -- what the check of the lent plan asks
+    pub sweep-asked : Risen (m .ptrs) (m .rows) × Chunked (m .nrows) len
+    sweep-asked = (risen-of m (chunked-passes m kept elims len map t map′ call d .keeps), chunked-passes m kept elims len map t map′ call d .chunked)
 
     pub sweep-sides : FewSides kept elims
     sweep-sides =
