@@ -5,9 +5,8 @@ pub mod FlatLaws
 pub mod OwnerRules
 pub mod OwnerLaws
 pub mod OwnerCalls
-pub mod ConnectedLaws
 pub mod RowRules
-pub mod RowLaws
+pub mod RowCalls
 pub mod ChunkLaws
 pub mod RunLaws
 pub mod SpanBridge
@@ -17,10 +16,6 @@ pub mod SpanRules
 pub mod PartLaws
 pub mod VisibleRules
 pub mod ViewRules
-pub mod VisibleLaws
-pub mod SpanLaws
-pub mod SideSpanLaws
+pub mod VisibleCalls
+pub mod SpanCalls
 pub mod PlanCalls
-pub mod PlanLaws
-pub mod Determined
-pub mod Cases

@@ -15,7 +15,7 @@ use Rattle.ground.specs.First.{first, some}
 use Rattle.ground.specs.Gather.{gather, listOf}
 use Rattle.ground.specs.Fold.{folded, All}
 use Rattle.ground.specs.Buckets.{bucket}
-use Rattle.ground.proofs.FirstLaws.{first-none, first-stop, first-turn, first-more}
+use Rattle.ground.proofs.FirstLaws.{first-bad, first-none, first-stop, first-turn, first-more}
 use Rattle.ground.proofs.GatherLaws.{length-listOf}
 use Rattle.ground.proofs.EachLaws.{all-gather, all-part, Leads, leads-none, leads-one, leads-gather, leads-some, leads-same, all-gathered}
 use Rattle.ground.proofs.BucketLaws.{bucket-gather}
@@ -248,3 +248,14 @@ module _ (m : Columns) (side : List ℕ) (r : ℕ) where
       go true e false f p q = let z : _≡_ {A = ℕ} 0 1 = cc (leads-some _ _ _ _ _ p q) in absurd (omega arith)
       go false e true f p q = let z : _≡_ {A = ℕ} 0 1 = cc (leads-some _ _ _ _ _ p q) in absurd (omega arith)
       go false e false f p q = rw (e, f)
+
+module _ (m : Columns) (elims : List ℕ) where
+  -- an owner that is no mark is an eliminated block with an entry in the row
+  pub owner-has : (r : ℕ) → (ownerOf m elims r ≡ mark → ⊥) → (ownerOf m elims r < blockCount elims) × (inBlock m elims r (ownerOf m elims r) ≡ true)
+  unfolding ownerOf
+  owner-has r ne = go (some (inBlock m elims r) 0 (blockCount elims)) refl ne
+    where
+      go : (b : Bool) → some (inBlock m elims r) 0 (blockCount elims) ≡ b → (cond b (first (inBlock m elims r) 0 (blockCount elims)) mark ≡ mark → ⊥)
+          → (cond b (first (inBlock m elims r) 0 (blockCount elims)) mark < blockCount elims) × (inBlock m elims r (cond b (first (inBlock m elims r) 0 (blockCount elims)) mark) ≡ true)
+      go true e ne = let h = ltb-true (first (inBlock m elims r) 0 (blockCount elims)) (blockCount elims) e in (h, first-bad (inBlock m elims r) 0 (blockCount elims) h)
+      go false e ne = absurd (ne refl)

@@ -38,10 +38,10 @@ use Rattle.plan.specs.Plan.{Buffers, columnBlocks, roomList, room, planE
 use Rattle.plan.specs.ColumnLists.{ColumnsFit, Counted, columnsListed, blocksListed}
 use Rattle.plan.proofs.ChunkLaws.{chunk-passes}
 use Rattle.plan.proofs.OwnerCalls.{parted-side, owners-in, owners-values, left-pass, left-refused}
-use Rattle.plan.proofs.RowLaws.{lists-fit, lists-of}
+use Rattle.plan.proofs.RowCalls.{lists-fit, lists-of}
 use Rattle.plan.proofs.EntryLaws.{side-entries}
-use Rattle.plan.proofs.VisibleLaws.{visible-fits, visible-lists-of}
-use Rattle.plan.proofs.SideSpanLaws.{pattern-spans, spanned-same, side-fit}
+use Rattle.plan.proofs.VisibleCalls.{visible-fits, visible-lists-of}
+use Rattle.plan.proofs.SpanCalls.{pattern-spans, spanned-same, side-fit}
 
 -- ---- what passed checks give
 

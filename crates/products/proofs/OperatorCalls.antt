@@ -30,13 +30,13 @@ use Rattle.products.specs.SideSums.{sideGather, inverseTimes}
 use Rattle.products.specs.SideFits.{SideFits, DofsFit, InversesFit}
 use Rattle.products.specs.Orders.{planBad, badPlan, spanTerms, planTerms, earlyChunked, lateBlocks}
 use Rattle.products.specs.OrderWalk.{entriesOnly, spansOnly, SpansFit}
-use Rattle.products.specs.PlanCheck.{rowsOnly}
+use Rattle.products.specs.PlanCheck.{Risen, rowsOnly}
 use Rattle.products.specs.SweepCheck.{chunkedLeft, checkChunked}
 use Rattle.products.specs.Operator.{dampLength, Operands, Work, sizesOf, operatorLengths, operatorTold, keptRows, eliminatedSums, reducedRows, keptSums, operated, schurOperator}
 use Rattle.products.specs.OperatorCalls.{operatorLent, dampedOn, DampFits}
 use Rattle.products.proofs.LentRules.{dofs-fit, side-fits}
 use Rattle.products.proofs.OperatorRules.{damped-sums}
-use Rattle.products.proofs.SweepRules.{Chunks, chunked-passes, rest-is, late-marked, late-kept, plan-told-is, good-spans}
+use Rattle.products.proofs.SweepRules.{Chunks, risen-of, chunked-passes, rest-is, late-marked, late-kept, plan-told-is, good-spans}
 
 few-damp : (n k : ℕ) → dampLength n k ≡ k → n ≤ k
 unfolding dampLength
@@ -69,8 +69,9 @@ module _ (m : Columns) (kept elims : List ℕ) (len : ℕ) (map : List ℕ) (o :
     abbrev chunks : Chunks m kept elims len
     chunks = chunked-passes m kept elims len map t map′ call d
 
-    pub operator-chunked : Chunked (m .nrows) len
-    operator-chunked = chunks .chunked
+    -- what the check of the lent plans asks
+    pub operator-asked : Risen (m .ptrs) (m .rows) × Chunked (m .nrows) len
+    operator-asked = (risen-of m (chunks .keeps), chunks .chunked)
 
     -- columns and blocks keep the rules; the laws of the blocks ask for a map too, and any with room will do
     keep : BlocksKeep m kept elims (replicate (columnCount m) 0)

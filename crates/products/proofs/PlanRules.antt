@@ -10,25 +10,100 @@ use native.Mathlib.Omega.{arith}
 use lib.Dec.{eqb, leb, ltb}
 use lib.ListN.{length, getD}
 use borrow.Author.Needs.{needs}
-use borrow.Author.Tests.{lt-ltb, le-ltb, le-leb, lt-leb, eq-eqb, ne-eqb, ltb-false, eqb-true, not-false}
+use borrow.Author.Tests.{lt-ltb, le-ltb, le-leb, lt-leb, eq-eqb, ne-eqb, ltb-true, ltb-false, leb-true, leb-false, eqb-true, not-false}
 use Rattle.ground.specs.First.{first, some}
-use Rattle.ground.proofs.FirstLaws.{by-call, past-none, first-same, some-turn, some-done, some-goes, some-stops, some-ends}
+use Rattle.ground.proofs.FirstLaws.{by-call, past-none, none-past, first-same, some-at, some-none, some-turn, some-done, some-goes, some-stops, some-ends}
 use Rattle.columns.specs.Refusals.{tell, done}
-use Rattle.columns.specs.Columns.{Columns, falls}
+use Rattle.columns.specs.Columns.{Columns, firstIn, endIn, falls}
 use Rattle.columns.proofs.CheckLaws.{or-false}
+use Rattle.blocks.proofs.LookupRules.{and-true}
 use Rattle.plan.specs.Spans.{inChunk, Spread}
 use Rattle.products.specs.Orders.{entryOut, spanBad, chunkBad, startsBad, planBad}
 use Rattle.products.specs.Side.{sideNumber}
-use Rattle.products.specs.PlanCheck.{rowsOnly, rowOut, spanOut, spanOutAt, startsOut, planTold, StartsThere, SpansThere, ChunkThere, ChunksThere, PlanThere}
+use Rattle.products.specs.PlanCheck.{rowsOnly, rowOut, inColumn, spanOut, spanOutAt, startsOut, planTold, Risen, SomeThere, StartsThere, SpansThere, ChunkThere, ChunksThere, PlanThere}
 
 pub or-of : (b t u : Bool) → t ≡ u → (b || t) ≡ (b || u)
 or-of b t u e = rw e
+
+or-true : (b : Bool) → (b || true) ≡ true
+or-true true = refl
+or-true false = refl
 
 -- ---- entries and spans
 
 pub row-is-out : (rows : List ℕ) (from end p : ℕ) → (ltb (getD rows p 0) from || leb end (getD rows p 0)) ≡ rowOut rows from end p
 unfolding rowOut
 row-is-out rows from end p = refl
+
+module _ (ptrs : List ℕ) (j a b : ℕ) where
+  -- n is how many columns there are, first where column j begins, and end where it ends, as the code read them
+  module _ (n : ℕ) (count : n ≡ length ptrs - 1) where
+    pub column-none : n ≤ j → false ≡ inColumn ptrs j a b
+    unfolding inColumn
+    column-none h = rw (le-ltb j (length ptrs - 1) (rw count at h))
+
+    module _ (first : ℕ) (there : j < n) (e : first ≡ firstIn ptrs j) where
+      pub column-low : a < first → false ≡ inColumn ptrs j a b
+      unfolding inColumn
+      column-low h = rw (lt-ltb j (length ptrs - 1) (rw count at there), lt-leb (firstIn ptrs j) a (rw e at h))
+
+      pub column-high : (end : ℕ) → first ≤ a → end ≡ endIn ptrs j → leb b end ≡ inColumn ptrs j a b
+      unfolding inColumn
+      column-high end h q = rw (lt-ltb j (length ptrs - 1) (rw count at there), le-leb (firstIn ptrs j) a (rw e at h), q)
+
+  record Within : Type 0 where
+    column : j < length ptrs - 1
+    low : firstIn ptrs j ≤ a
+    high : b ≤ endIn ptrs j
+
+  within-of : inColumn ptrs j a b ≡ true → Within
+  unfolding inColumn
+  within-of e =
+      let p = and-true (ltb j (length ptrs - 1)) (leb (firstIn ptrs j) a && leb b (endIn ptrs j)) e in
+      let q = and-true (leb (firstIn ptrs j) a) (leb b (endIn ptrs j)) (p .1) in
+      record { column = ltb-true _ _ (p .0); low = leb-true _ _ (q .0); high = leb-true _ _ (q .1) }
+
+-- where rows rise, the first and the last of a run in a column tell of all
+module _ (ptrs rows : List ℕ) (from end j a b : ℕ) (risen : Risen ptrs rows) (there : SomeThere (length rows) a b) (w : Within ptrs j a b) where
+  above : (p : ℕ) → a ≤ p → p < b → getD rows a 0 ≤ getD rows p 0
+  above p l h = go (decLt a p)
+    where
+      go : Dec (a < p) → getD rows a 0 ≤ getD rows p 0
+      go (yes q) = omega (arith, risen .rise j a p (w .column) (w .low) q (omega (arith, w .high)))
+      go (no q) = let e : a ≡ p = omega arith in le-of-eq (ap (λ (k : ℕ). getD rows k 0) e)
+
+  below : (p : ℕ) → a ≤ p → p < b → getD rows p 0 ≤ getD rows (b - 1) 0
+  below p l h = go (decLt p (b - 1))
+    where
+      go : Dec (p < b - 1) → getD rows p 0 ≤ getD rows (b - 1) 0
+      go (yes q) = omega (arith, risen .rise j p (b - 1) (w .column) (omega (arith, w .low)) q (omega (arith, w .high)))
+      go (no q) = let e : p ≡ b - 1 = omega arith in le-of-eq (ap (λ (k : ℕ). getD rows k 0) e)
+
+  first-out : ltb (getD rows a 0) from ≡ true → some (rowOut rows from end) a b ≡ true
+  unfolding rowOut
+  first-out e = some-at (rowOut rows from end) a b a (omega arith) (there .some) (rw e)
+
+  last-out : leb end (getD rows (b - 1) 0) ≡ true → some (rowOut rows from end) a b ≡ true
+  unfolding rowOut
+  last-out e = some-at (rowOut rows from end) a b (b - 1) (omega (arith, there .some)) (omega (arith, there .some)) (rw e (or-true (ltb (getD rows (b - 1) 0) from)))
+
+  none-out : ltb (getD rows a 0) from ≡ false → leb end (getD rows (b - 1) 0) ≡ false → some (rowOut rows from end) a b ≡ false
+  unfolding rowOut
+  none-out e q =
+      none-past (rowOut rows from end) a b (λ p l h. rw (le-ltb (getD rows p 0) from (omega (arith, ltb-false (getD rows a 0) from e, above p l h)), lt-leb end (getD rows p 0) (omega (arith, leb-false end (getD rows (b - 1) 0) q, below p l h))))
+
+  ends-by : (t u : Bool) → ltb (getD rows a 0) from ≡ t → leb end (getD rows (b - 1) 0) ≡ u → (t || u) ≡ some (rowOut rows from end) a b
+  ends-by true u e q = sym (first-out e)
+  ends-by false true e q = sym (last-out q)
+  ends-by false false e q = sym (none-out e q)
+
+-- t is what `in_column` answered
+pub ends-out : (ptrs rows : List ℕ) (from end j a b : ℕ) (t : Bool) → Risen ptrs rows → SomeThere (length rows) a b → t ≡ inColumn ptrs j a b → t ≡ true
+    → (ltb (getD rows a 0) from || leb end (getD rows (b - 1) 0)) ≡ some (rowOut rows from end) a b
+ends-out ptrs rows from end j a b t risen there e q = ends-by ptrs rows from end j a b risen there (within-of ptrs j a b (sym e ∙ q)) (ltb (getD rows a 0) from) (leb end (getD rows (b - 1) 0)) refl refl
+
+pub no-rows-out : (rows : List ℕ) (from end a b : ℕ) → b ≤ a → false ≡ some (rowOut rows from end) a b
+no-rows-out rows from end a b h = sym (some-none (rowOut rows from end) a b h)
 
 module _ (rows : List ℕ) (from end dof a b l : ℕ) where
   pub span-back : b < a → true ≡ spanOut rows from end dof a b l
@@ -195,6 +270,11 @@ pub ruleset planning = (
   some-done,
   or-of,
   row-is-out,
+  column-none,
+  column-low,
+  column-high,
+  ends-out,
+  no-rows-out,
   span-back,
   span-past,
   span-local,

@@ -22,7 +22,7 @@ use Rattle.columns.specs.Refusals.{Told, done, refused, told, Passes, onPass, o
 use Rattle.columns.specs.Lengths.{noRoom, wrongLength}
 use Rattle.columns.specs.Columns.{Columns, columnCount, entryCount, firstIn, endIn, Keeps}
 use Rattle.columns.proofs.RefusalLaws.{pass-refused, pass-done, both-pass, passed, or-refused, or-done, or-assoc}
-use Rattle.columns.proofs.CheckLaws.{or-false, passes-keeps}
+use Rattle.columns.proofs.CheckLaws.{or-false, passes-keeps, column-ascends}
 use Rattle.columns.proofs.CallLaws.{lengths-right, room-right}
 use Rattle.blocks.specs.Sides.{sideDof, sideOf}
 use Rattle.blocks.specs.Claims.{mark, marked, claims, placeOf, partsTold, Mapped, Parted}
@@ -33,16 +33,20 @@ use Rattle.blocks.proofs.WalkRules.{marked-all}
 use Rattle.plan.specs.Spans.{chunkTold, chunkCount, inChunk, Spread}
 use Rattle.plan.specs.SpanWalk.{Chunked}
 use Rattle.plan.proofs.ChunkLaws.{chunk-passes}
-use Rattle.plan.proofs.SideSpanLaws.{side-dof}
+use Rattle.plan.proofs.SpanCalls.{side-dof}
 use Rattle.products.specs.declared.side.Side.{Side}
 use Rattle.products.specs.declared.side.Side.the-variants.{Kept, Eliminated}
 use Rattle.products.specs.Orders.{entryOut, spanBad, chunkBad, startsBad, planBad, badPlan, earlyChunked, lateBlocks}
 use Rattle.products.specs.Side.{eliminated}
-use Rattle.products.specs.PlanCheck.{rowsOnly, startsOut, planTold, PlanThere}
+use Rattle.products.specs.PlanCheck.{Risen, rowsOnly, startsOut, planTold, PlanThere}
 use Rattle.products.specs.OrderWalk.{SpansFit, PlanFits}
-use Rattle.products.specs.SweepCheck.{chunkedLeft, checkChunked, lentLengths, lentTold, checksTold, checkSweep, FewSides}
+use Rattle.products.specs.SweepCheck.{chunkedLeft, checkChunked, lentLengths, lentSweep, checksTold, checkSweep, FewSides}
 use Rattle.products.specs.SideFits.{DofsFit}
 use Rattle.products.proofs.PlanRules.{Rising, starts-rise, rising-within, rising-find}
+
+-- columns that keep the rules rise
+pub risen-of : (m : Columns) → Keeps m → Risen (m .ptrs) (m .rows)
+risen-of m k = record { rise = λ j p q l low h high. column-ascends (k .sorted) j l p q low h high }
 
 -- ---- a side's dof
 
@@ -179,8 +183,8 @@ module _ (e : Bool) (nrows : ℕ) (m : Columns) (dof len nv : ℕ) (s : Spread) 
   wrong-is : told w ≡ wrongLength (lentLengths nrows dof len nv s ny np)
   wrong-is = call ∙ rw count
 
-  pub lent-refused : (r : Refusal) → w ≡ Refused r → refused r ≡ lentTold e nrows m dof len nv s ny np
-  unfolding lentTold
+  pub lent-refused : (r : Refusal) → w ≡ Refused r → refused r ≡ lentSweep e nrows m dof len nv s ny np
+  unfolding lentSweep
   lent-refused r q = rw (← wrong-is, q) (sym (or-refused r _))
 
   pub lent-there : Chunked nrows len → w ≡ Done → PlanThere len chunks (length (s .starts)) (length (s .lo)) (length (s .hi)) (length (s .local))
@@ -189,8 +193,8 @@ module _ (e : Bool) (nrows : ℕ) (m : Columns) (dof len nv : ℕ) (s : Spread) 
       let r = lengths-right (lentLengths nrows dof len nv s ny np) p in
       rw count (record { starts = r 1 (omega arith); hi = r 3 (omega arith); local = r 4 (omega arith); small = small-end nrows len c })
 
-  pub lent-plan : (t : Answer) → w ≡ Done → told t ≡ planTold e m dof len chunks s → told t ≡ lentTold e nrows m dof len nv s ny np
-  unfolding lentTold
+  pub lent-plan : (t : Answer) → w ≡ Done → told t ≡ planTold e m dof len chunks s → told t ≡ lentSweep e nrows m dof len nv s ny np
+  unfolding lentSweep
   lent-plan t q p = p ∙ rw (← wrong-is, q, count) (sym (or-done _))
 
 -- the plan's check looks at the rows alone
@@ -211,8 +215,9 @@ module _ (e : Bool) (m : Columns) (kept elims : List ℕ) (len : ℕ) (map : Lis
       rw (b, w)
 
   module _ (d : t ≡ Done) where
-    pub sweep-chunked : Chunked (m .nrows) len
-    sweep-chunked = chunked-passes m kept elims len map t map′ call d .chunked
+    -- what the check of the lent plan asks
+    pub sweep-asked : Risen (m .ptrs) (m .rows) × Chunked (m .nrows) len
+    sweep-asked = (risen-of m (chunked-passes m kept elims len map t map′ call d .keeps), chunked-passes m kept elims len map t map′ call d .chunked)
 
     pub sweep-sides : FewSides kept elims
     sweep-sides =
@@ -220,9 +225,9 @@ module _ (e : Bool) (m : Columns) (kept elims : List ℕ) (len : ℕ) (map : Lis
         record { kept-few = record { few = side-dof m kept elims (p .keeps) (p .parted) false }; elims-few = record { few = side-dof m kept elims (p .keeps) (p .parted) true } }
 
     -- dof is what the code counted, and l what `check_lent` answered
-    module _ (dof : ℕ) (l : Answer) (count : dof ≡ sideDof (sideOf e kept elims)) (lent : told l ≡ lentTold e (m .nrows) (rowsOnly (m .rows)) dof len nv s ny np) where
+    module _ (dof : ℕ) (l : Answer) (count : dof ≡ sideDof (sideOf e kept elims)) (lent : told l ≡ lentSweep e (m .nrows) (rowsOnly (m .rows)) dof len nv s ny np) where
       checks-are : checksTold e m kept elims len map nv s ny np ≡ told l
-      unfolding lentTold
+      unfolding lentSweep
       checks-are =
           rest-is m kept elims len map t map′ call d _
           ∙ sym (lent ∙ rw (count, plan-told-is e m (sideOf e kept elims) len s))

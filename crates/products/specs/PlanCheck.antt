@@ -1,13 +1,13 @@
 -- Refusal 13 as src/plan_check.rt finds it, and what its functions ask. Assumes nothing.
 use mathlib.Core.Path.{_≡_}
-use mathlib.Core.Bool.{Bool, not, _||_, cond}
+use mathlib.Core.Bool.{Bool, not, _&&_, _||_, cond}
 use mathlib.Core.List.{List, [], _∷_}
-use Prim.Native.Nat.{ℕ, _+_, _*_, _≤_, _<_}
+use Prim.Native.Nat.{ℕ, _+_, _-_, _*_, _≤_, _<_}
 use lib.Dec.{eqb, leb, ltb}
 use lib.ListN.{length, getD}
 use Rattle.ground.specs.First.{some}
 use Rattle.columns.specs.Refusals.{Told, tell, done}
-use Rattle.columns.specs.Columns.{Columns, columnsOf, falls}
+use Rattle.columns.specs.Columns.{Columns, columnsOf, firstIn, endIn, falls}
 use Rattle.plan.specs.Spans.{Spread}
 use Rattle.products.specs.Orders.{planBad}
 
@@ -18,6 +18,10 @@ rowsOnly rows = columnsOf 0 [] rows []
 -- the row at place p is below `from`, or `end` or more
 unfoldable pub rowOut : List ℕ → ℕ → ℕ → ℕ → Bool
 rowOut rows from end p = ltb (getD rows p 0) from || leb end (getD rows p 0)
+
+-- places a up to b lie in column j
+unfoldable pub inColumn : List ℕ → ℕ → ℕ → ℕ → Bool
+inColumn ptrs j a b = ltb j (length ptrs - 1) && (leb (firstIn ptrs j) a && leb b (endIn ptrs j))
 
 -- a span from a to b with local number l is bad, in a chunk of rows `from` up to `end`; span k of a list is
 unfoldable pub spanOut : List ℕ → ℕ → ℕ → ℕ → ℕ → ℕ → ℕ → Bool
@@ -35,6 +39,15 @@ unfoldable pub planTold : Bool → Columns → ℕ → ℕ → ℕ → Spread �
 planTold e m dof len chunks s = cond (planBad m dof len chunks s) (tell 13 (cond e 1 0 ∷ [])) done
 
 -- ---- what its functions ask
+
+-- rows rise along each column, as those do of columns that have passed their check
+pub record Risen (ptrs rows : List ℕ) : Type 0 where
+  pub rise : (j p q : ℕ) → j < length ptrs - 1 → firstIn ptrs j ≤ p → p < q → q < endIn ptrs j → getD rows p 0 < getD rows q 0
+
+-- places a up to b are there, and there is one
+pub record SomeThere (n a b : ℕ) : Type 0 where
+  pub some : a < b
+  pub there : b ≤ n
 
 -- n starts are one for each chunk, and one more
 pub record StartsThere (n chunks : ℕ) : Type 0 where

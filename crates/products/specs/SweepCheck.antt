@@ -39,8 +39,8 @@ lentLengths n dof len nv s ny np =
     ∷ np ∷ chunkCount n len ∷ []
 
 -- 11 and 13
-unfoldable pub lentTold : Bool → ℕ → Columns → ℕ → ℕ → ℕ → Spread → ℕ → ℕ → Told
-lentTold e n m dof len nv s ny np = orElse (wrongLength (lentLengths n dof len nv s ny np)) (planTold e m dof len (chunkCount n len) s)
+unfoldable pub lentSweep : Bool → ℕ → Columns → ℕ → ℕ → ℕ → Spread → ℕ → ℕ → Told
+lentSweep e n m dof len nv s ny np = orElse (wrongLength (lentLengths n dof len nv s ny np)) (planTold e m dof len (chunkCount n len) s)
 
 -- 1 to 9, 11 and 13, and the map that they leave
 abbrev pub checksTold : Bool → Columns → List ℕ → List ℕ → ℕ → List ℕ → ℕ → Spread → ℕ → ℕ → Told

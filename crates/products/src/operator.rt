@@ -20,7 +20,7 @@ ghost use lib.ListN.{length};
 ghost use Rattle.columns.specs.Refusals.{told};
 ghost use Rattle.columns.specs.Columns.{columnsOf};
 ghost use Rattle.plan.specs.SpanWalk.{Chunked};
-ghost use Rattle.products.specs.PlanCheck.{rowsOnly};
+ghost use Rattle.products.specs.PlanCheck.{rowsOnly, Risen};
 ghost use Rattle.products.specs.Operator.{dampLength, schurOperator};
 ghost use Rattle.products.specs.OperatorCalls.{operatorLent, dampedOn, DampFits};
 
@@ -48,6 +48,7 @@ fn damp_length(n: usize, dof: usize) -> usize
 // Refusals 11 and 13: the lengths of all that is lent, and then both plans, kept first.
 fn check_operands(
     nrows: usize,
+    ptrs: &[u32],
     rows: &[u32],
     chunk_len: usize,
     kept_dof: usize,
@@ -63,6 +64,7 @@ fn check_operands(
     elims_hi: &[u32],
     elims_local: &[u32],
 ) -> Answer
+    requires { ⌜ Risen (now ptrs) (now rows) ⌝ }
     requires { ⌜ Chunked nrows «chunk_len» ⌝ }
     ensures { λ r. ⌜ told r ≡ operatorLent nrows (rowsOnly (now (rows .entry))) «chunk_len» «kept_dof» «elims_dof» count (record { v = sizes .v; inverses = sizes .inverses; d = sizes .d; rows = sizes .rows; t = sizes .t; u = sizes .u; out = sizes .out }) (record { starts = now («kept_starts» .entry); lo = now («kept_lo» .entry); hi = now («kept_hi» .entry); local = now («kept_local» .entry) }) (record { starts = now («elims_starts» .entry); lo = now («elims_lo» .entry); hi = now («elims_hi» .entry); local = now («elims_local» .entry) }) ⌝ }
 {
@@ -106,6 +108,7 @@ fn check_operands(
     }
     let kept_plan = check_plan(
         Side::Kept,
+        ptrs,
         rows,
         kept_dof,
         chunk_len,
@@ -120,6 +123,7 @@ fn check_operands(
     }
     check_plan(
         Side::Eliminated,
+        ptrs,
         rows,
         elims_dof,
         chunk_len,
@@ -184,6 +188,7 @@ pub fn apply_schur_operator(
     };
     let lent = check_operands(
         nrows,
+        ptrs,
         rows,
         chunk_len,
         side_dof(kept),

@@ -1,9 +1,13 @@
-// Refusal 13: a plan as it is lent. Its spans are looked at chunk by chunk, so a chunk's first row and its end are found once for all of its
-// entries, and an entry costs two compares and no division.
+// Refusal 13: a plan as it is lent. Its spans are looked at chunk by chunk, so a chunk's first row and its end are found once for all of them.
+// Rows rise along a column, so a span that lies in one column is told by its first and its last row. Its column is guessed, from the span before
+// or by halves, and the guess is tested: a span that crosses columns, as a plan from elsewhere may have, is looked at entry by entry.
 use crate::side::Side;
 use crate::side::side_number;
+use columns::check::column_count;
 use columns::refusal::Answer;
 use columns::refusal::Refusal;
+use columns::unchecked::end_place;
+use columns::unchecked::first_place;
 use ground::wide;
 ghost use mathlib.Core.Path.{_≡_};
 ghost use Prim.Native.Nat.{_+_};
@@ -14,7 +18,7 @@ ghost use Rattle.columns.specs.Columns.{falls};
 ghost use Rattle.columns.specs.Unchecked.{RunThere};
 ghost use Rattle.products.specs.Orders.{chunkBad};
 ghost use Rattle.products.specs.Side.{eliminated};
-ghost use Rattle.products.specs.PlanCheck.{startsOut, rowsOnly, rowOut, spanOut, spanOutAt, planTold, StartsThere, SpansThere, ChunkThere, ChunksThere, PlanThere};
+ghost use Rattle.products.specs.PlanCheck.{startsOut, rowsOnly, rowOut, inColumn, spanOut, spanOutAt, planTold, Risen, SomeThere, StartsThere, SpansThere, ChunkThere, ChunksThere, PlanThere};
 
 // Whether the row at place p is below `from`, or `end` or more.
 fn row_out(rows: &[u32], from: u32, end: u32, p: usize) -> bool
@@ -37,8 +41,90 @@ fn some_row_out(rows: &[u32], from: u32, end: u32, lo: usize, hi: usize) -> bool
     bad
 }
 
-// Whether a span from a to b with local number l is bad, in the chunk of rows `from` up to `end`.
-fn span_bad(rows: &[u32], from: u32, end: u32, dof: usize, a: usize, b: usize, l: usize) -> bool
+// How many columns after the one before are tried before they are halved.
+const NEXT_FEW: usize = 4;
+
+// From column j on, the last of a few columns that begins at place a or before it.
+fn next_column(ptrs: &[u32], j: usize, a: usize) -> usize {
+    let n = column_count(ptrs);
+    if n <= j {
+        return 0;
+    }
+    let mut at = j;
+    for _ in 0..NEXT_FEW {
+        if n <= at + 1 {
+            return at;
+        }
+        if a < first_place(ptrs, at + 1) {
+            return at;
+        }
+        at = at + 1;
+    }
+    at
+}
+
+// The last column that begins at place a or before it, by halves.
+fn find_column(ptrs: &[u32], a: usize) -> usize {
+    let mut low: usize = 0;
+    let mut high = column_count(ptrs);
+    while low + 1 < high {
+        let middle = low + (high - low) / 2;
+        if first_place(ptrs, middle) <= a {
+            low = middle;
+        } else {
+            high = middle;
+        }
+    }
+    low
+}
+
+// Whether places a up to b lie in column j.
+fn in_column(ptrs: &[u32], j: usize, a: usize, b: usize) -> bool
+    ensures { λ r. ⌜ r ≡ inColumn (now (ptrs .entry)) j a b ⌝ }
+{
+    if column_count(ptrs) <= j {
+        return false;
+    }
+    if a < first_place(ptrs, j) {
+        return false;
+    }
+    b <= end_place(ptrs, j)
+}
+
+// A column to try for places a up to b, after column j. Nothing rests on it but time.
+fn guess_column(ptrs: &[u32], j: usize, a: usize, b: usize) -> usize {
+    let next = next_column(ptrs, j, a);
+    if in_column(ptrs, next, a, b) {
+        return next;
+    }
+    find_column(ptrs, a)
+}
+
+// Whether one of places a up to b has a row out of `from` up to `end`: by the first and the last where they lie in column j.
+fn rows_out(ptrs: &[u32], rows: &[u32], from: u32, end: u32, j: usize, a: usize, b: usize) -> bool
+    requires { ⌜ Risen (now ptrs) (now rows) ⌝ }
+    requires { ⌜ SomeThere (length (now rows)) a b ⌝ }
+    ensures { λ r. ⌜ r ≡ some (rowOut (now (rows .entry)) from end) a b ⌝ }
+{
+    if in_column(ptrs, j, a, b) {
+        return (rows[a] < from) | (end <= rows[b - 1]);
+    }
+    some_row_out(rows, from, end, a, b)
+}
+
+// Whether a span from a to b with local number l is bad, in the chunk of rows `from` up to `end`; j is the column to try.
+fn span_bad(
+    ptrs: &[u32],
+    rows: &[u32],
+    from: u32,
+    end: u32,
+    dof: usize,
+    j: usize,
+    a: usize,
+    b: usize,
+    l: usize,
+) -> bool
+    requires { ⌜ Risen (now ptrs) (now rows) ⌝ }
     ensures { λ r. ⌜ r ≡ spanOut (now (rows .entry)) from end dof a b l ⌝ }
 {
     if b < a {
@@ -50,11 +136,15 @@ fn span_bad(rows: &[u32], from: u32, end: u32, dof: usize, a: usize, b: usize, l
     if dof <= l {
         return true;
     }
-    some_row_out(rows, from, end, a, b)
+    if b <= a {
+        return false;
+    }
+    rows_out(ptrs, rows, from, end, j, a, b)
 }
 
 // Whether one of spans `first` up to `last` is.
 fn some_span_bad(
+    ptrs: &[u32],
     rows: &[u32],
     from: u32,
     end: u32,
@@ -65,14 +155,17 @@ fn some_span_bad(
     first: usize,
     last: usize,
 ) -> bool
+    requires { ⌜ Risen (now ptrs) (now rows) ⌝ }
     requires { ⌜ SpansThere (length (now lo)) (length (now hi)) (length (now local)) last ⌝ }
     ensures { λ r. ⌜ r ≡ some (spanOutAt (now (rows .entry)) from end dof (now (lo .entry)) (now (hi .entry)) (now (local .entry))) first last ⌝ }
 {
+    let mut j: usize = 0;
     for k in first..last {
         let a = wide(lo[k]);
         let b = wide(hi[k]);
         let l = wide(local[k]);
-        if span_bad(rows, from, end, dof, a, b, l) {
+        j = guess_column(ptrs, j, a, b);
+        if span_bad(ptrs, rows, from, end, dof, j, a, b, l) {
             return true;
         }
     }
@@ -81,6 +174,7 @@ fn some_span_bad(
 
 // Whether chunk c has a bad span.
 fn chunk_bad(
+    ptrs: &[u32],
     rows: &[u32],
     dof: usize,
     len: usize,
@@ -90,6 +184,7 @@ fn chunk_bad(
     local: &[u32],
     c: usize,
 ) -> bool
+    requires { ⌜ Risen (now ptrs) (now rows) ⌝ }
     requires { ⌜ ChunkThere len (now starts) (length (now lo)) (length (now hi)) (length (now local)) c ⌝ }
     ensures { λ r. ⌜ r ≡ chunkBad (rowsOnly (now (rows .entry))) dof len (record { starts = now (starts .entry); lo = now (lo .entry); hi = now (hi .entry); local = now (local .entry) }) c ⌝ }
 {
@@ -98,6 +193,7 @@ fn chunk_bad(
     let first = wide(starts[c]);
     let last = wide(starts[c + 1]);
     some_span_bad(
+        ptrs,
         rows,
         from as u32,
         end as u32,
@@ -111,6 +207,7 @@ fn chunk_bad(
 }
 
 fn some_chunk_bad(
+    ptrs: &[u32],
     rows: &[u32],
     dof: usize,
     len: usize,
@@ -120,11 +217,12 @@ fn some_chunk_bad(
     hi: &[u32],
     local: &[u32],
 ) -> bool
+    requires { ⌜ Risen (now ptrs) (now rows) ⌝ }
     requires { ⌜ ChunksThere len chunks (now starts) (length (now lo)) (length (now hi)) (length (now local)) ⌝ }
     ensures { λ r. ⌜ r ≡ some (chunkBad (rowsOnly (now (rows .entry))) dof len (record { starts = now (starts .entry); lo = now (lo .entry); hi = now (hi .entry); local = now (local .entry) })) 0 chunks ⌝ }
 {
     for c in 0..chunks {
-        if chunk_bad(rows, dof, len, starts, lo, hi, local, c) {
+        if chunk_bad(ptrs, rows, dof, len, starts, lo, hi, local, c) {
             return true;
         }
     }
@@ -160,6 +258,7 @@ fn starts_bad(starts: &[u32], chunks: usize, n: usize) -> bool
 // Refusal 13 of a side's plan, whose lists have the right lengths.
 pub(crate) fn check_plan(
     side: Side,
+    ptrs: &[u32],
     rows: &[u32],
     dof: usize,
     len: usize,
@@ -169,6 +268,7 @@ pub(crate) fn check_plan(
     hi: &[u32],
     local: &[u32],
 ) -> Answer
+    requires { ⌜ Risen (now ptrs) (now rows) ⌝ }
     requires { ⌜ PlanThere len chunks (length (now starts)) (length (now lo)) (length (now hi)) (length (now local)) ⌝ }
     ensures { λ r. ⌜ told r ≡ planTold (eliminated side) (rowsOnly (now (rows .entry))) dof len chunks (record { starts = now (starts .entry); lo = now (lo .entry); hi = now (hi .entry); local = now (local .entry) }) ⌝ }
 {
@@ -177,7 +277,7 @@ pub(crate) fn check_plan(
             side: side_number(side),
         });
     }
-    if some_chunk_bad(rows, dof, len, chunks, starts, lo, hi, local) {
+    if some_chunk_bad(ptrs, rows, dof, len, chunks, starts, lo, hi, local) {
         return Answer::Refused(Refusal::BadPlan {
             side: side_number(side),
         });

@@ -19,8 +19,8 @@ ghost use Rattle.columns.specs.Columns.{columnsOf};
 ghost use Rattle.blocks.specs.Sides.{sideDof, sideOf};
 ghost use Rattle.plan.specs.SpanWalk.{Chunked};
 ghost use Rattle.products.specs.Side.{eliminated};
-ghost use Rattle.products.specs.PlanCheck.{rowsOnly};
-ghost use Rattle.products.specs.SweepCheck.{checkChunked, lentTold, checkSweep, FewSides};
+ghost use Rattle.products.specs.PlanCheck.{rowsOnly, Risen};
+ghost use Rattle.products.specs.SweepCheck.{checkChunked, lentSweep, checkSweep, FewSides};
 
 // The dof of the side that a call is for.
 fn dof_of(side: Side, kept: &[u32], elims: &[u32]) -> usize
@@ -60,6 +60,7 @@ pub(crate) fn check_chunked(
 fn check_lent(
     side: Side,
     nrows: usize,
+    ptrs: &[u32],
     rows: &[u32],
     dof: usize,
     chunk_len: usize,
@@ -71,8 +72,9 @@ fn check_lent(
     ny: usize,
     nprogress: usize,
 ) -> Answer
+    requires { ⌜ Risen (now ptrs) (now rows) ⌝ }
     requires { ⌜ Chunked nrows «chunk_len» ⌝ }
-    ensures { λ r. ⌜ told r ≡ lentTold (eliminated side) nrows (rowsOnly (now (rows .entry))) dof «chunk_len» nv (record { starts = now (starts .entry); lo = now (lo .entry); hi = now (hi .entry); local = now (local .entry) }) ny nprogress ⌝ }
+    ensures { λ r. ⌜ told r ≡ lentSweep (eliminated side) nrows (rowsOnly (now (rows .entry))) dof «chunk_len» nv (record { starts = now (starts .entry); lo = now (lo .entry); hi = now (hi .entry); local = now (local .entry) }) ny nprogress ⌝ }
 {
     let chunks = chunk_count(nrows, chunk_len);
     let spans = lo.len();
@@ -95,7 +97,18 @@ fn check_lent(
     if let Answer::Refused(r) = wrong_length(&lengths) {
         return Answer::Refused(r);
     }
-    check_plan(side, rows, dof, chunk_len, chunks, starts, lo, hi, local)
+    check_plan(
+        side,
+        ptrs,
+        rows,
+        dof,
+        chunk_len,
+        chunks,
+        starts,
+        lo,
+        hi,
+        local,
+    )
 }
 
 // The checks of a side's sweep or step up to 13, and the map that they leave.
@@ -127,6 +140,7 @@ pub(crate) fn check_sweep(
     let lent = check_lent(
         side,
         nrows,
+        ptrs,
         rows,
         dof,
         chunk_len,

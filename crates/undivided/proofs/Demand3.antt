@@ -15,8 +15,8 @@ use Rattle.plan.specs.Owners.{Connects}
 use Rattle.plan.specs.Spans.{chunkCount, sideSpans, Spread}
 use Rattle.plan.specs.SpanWalk.{ColumnRises}
 use Rattle.plan.specs.Plan.{Buffers, planLeft}
-use Rattle.plan.proofs.SideSpanLaws.{side-rises}
-use Rattle.plan.proofs.PlanLaws.{Sound, unconnected-left}
+use Rattle.plan.proofs.SpanCalls.{side-rises}
+use Rattle.plan_laws.proofs.PlanLaws.{Sound, unconnected-left}
 use Rattle.products.specs.Orders.{planTerms, badOrder, badPlan, orderTerms}
 use Rattle.products.specs.SideSums.{sideTerms}
 use Rattle.undivided.specs.Undivided.{ownTerms, chunkTerms, SidePlanned, cut, listsOf, Lengths}

@@ -5,6 +5,8 @@ use mathlib.Core.Bool.{Bool, true, false}
 use mathlib.Core.List.{List, [], _∷_}
 use Prim.Native.Nat.{ℕ}
 use native.Mathlib.Omega.{arith}
+use native.Mathlib.Nat.{le-refl}
+use contract.Lifetimes.{Lfts}
 use lib.IntN.{pos, negsuc}
 use lib.ListN.{length, replicate}
 use lib.Ieee.{Float, binary64, ofInt, ofBits, neg, add, sub, mul, eq}
@@ -12,7 +14,7 @@ use Rattle.ground.specs.First.{first, firstN}
 use Rattle.ground.specs.Gather.{gather, gatherN}
 use Rattle.ground.specs.Fold.{folded}
 use Rattle.columns.specs.declared.unchecked.Sign.the-variants.{Plus, Minus}
-use Rattle.columns.specs.Refusals.{Passes, done, onPass}
+use Rattle.columns.specs.Refusals.{Passes, tell, done, onPass}
 use Rattle.columns.specs.Lengths.{pairBad, pairsTold, noRoom}
 use Rattle.columns.specs.Columns.{Columns, columnsOf, firstIn, endIn, tooBig, falls, badShape, rowBad, rowFalls, columnBad, badRow, checked}
 use Rattle.columns.specs.Sums.{addTerm, joined, landed, sweptOn}
@@ -24,19 +26,24 @@ use Rattle.blocks.proofs.PartLaws.{passes-parted}
 use Rattle.columns.proofs.CallLaws.{room-right}
 use Rattle.blocks.specs.Sides.{sideOf}
 use Rattle.plan.specs.Owners.{sideEntries, entryAt, columnEntries, blockEntries, holder, clashes, connectedTold, Connects}
-use Rattle.plan.specs.Plan.{Buffers, buffers, room, planLeft}
-use Rattle.plan.proofs.ConnectedLaws.{connects-told}
-use Rattle.plan.proofs.PlanLaws.{Sound}
+use Rattle.plan.specs.declared.structure.Planned as plan
+use Rattle.plan.specs.Plan.{Buffers, buffers, room, toldPlan, planTold, planLeft}
+use Rattle.plan_laws.proofs.ConnectedLaws.{connects-told}
+use Rattle.plan_laws.proofs.PlanLaws.{Sound, unconnected-planned}
+use Rattle.plan_laws.proofs.Determined.{plan-tells}
+use Rattle.plan.proofs.structure.plan.Reads as planning
 use Rattle.plan.specs.Spans.{sideSpans, chunkTold, chunkCount, inChunk, placeIn, pastLast, columnSpan, localSpans, Spread}
 use Rattle.plan.specs.SpanWalk.{Chunked}
 use Rattle.products.specs.Orders.{entryOut, spanBad, chunkBad, startsBad, planBad, badPlan, spanCount, served, hasNext, placeBad, chunkLeft, badOrder, orderTerms, sweepTold₁₄}
 use Rattle.products.specs.SideSums.{sideTerms, sideGather, inverseTerm, inverseEntry, inverseBlock}
 use Rattle.products.specs.Steps.{stepsOf}
-use Rattle.products.specs.Operator.{Work, dampTerm, keptSum, operated}
+use Rattle.products.specs.Operator.{Work, dampLength, dampTerm, keptSum, operated}
 use Rattle.undivided.specs.Plain.{plainOperated}
-use Rattle.undivided.specs.Undivided.{Planned, SidePlanned, cut, listsOf}
+use Rattle.undivided.specs.Undivided.{Planned, SidePlanned, cut, listsOf, Serves, SweepFits, OperatorFits}
 use Rattle.undivided.proofs.OperatorLaws.{operator-plain}
 use Rattle.undivided.proofs.Demand3.{left-planned, rows-of-order}
+use Rattle.undivided.proofs.OrderLaws.{accepted-serves}
+use Rattle.plan_laws.proofs.CallParts.{planColumns, planKept, planElims, planLen, planLent}
 use Rattle.undivided.proofs.StepLaws.{steps-undivided}
 
 abbrev f : ℕ → Float
@@ -179,3 +186,41 @@ case-three = hall-operator (f 2 ∷ []) inverses [] ∙ plain-case
 
 pub case-three-damped : operated hall kept elims (record { v = f 2 ∷ []; inverses = inverses; d = ofBits binary64 0x3FE0_0000_0000_0000 ∷ []; kept = keptLists; elims = elimsLists }) .out ≡ f 2 ∷ []
 case-three-damped = ap (λ (w : Work). w .out) (hall-operator (f 2 ∷ []) inverses (ofBits binary64 0x3FE0_0000_0000_0000 ∷ [])) ∙ damped-case
+
+-- ---- what theorem 8 asks holds of it
+
+-- lent this, `plan` answers 0 with three spans a side
+pub hall-told : planTold hall kept elims 2 lent ≡ tell 0 (3 ∷ 3 ∷ [])
+unfolding first firstN gather gatherN firstIn endIn blockColumns offsetOf chunkCount inChunk placeIn pastLast columnSpan localSpans
+hall-told = unconnected-planned hall kept elims 2 lent hall-sound hall-unconnected
+
+pub hall-answer : (κs : Lfts 22) (a : _) (t : _) (q : plan.Planned) → planning.Post κs a q t → planColumns κs a ≡ hall → planKept κs a ≡ kept → planElims κs a ≡ elims → planLen κs a ≡ 2 → planLent κs a ≡ lent
+    → toldPlan q ≡ tell 0 (3 ∷ 3 ∷ [])
+hall-answer κs a t q post m k e l b =
+    plan-tells κs a t q post
+    ∙ ap (λ (w : Columns). planTold w (planKept κs a) (planElims κs a) (planLen κs a) (planLent κs a)) m
+    ∙ ap (λ (w : List ℕ). planTold hall w (planElims κs a) (planLen κs a) (planLent κs a)) k
+    ∙ ap (λ (w : List ℕ). planTold hall kept w (planLen κs a) (planLent κs a)) e
+    ∙ ap (λ (w : ℕ). planTold hall kept elims w (planLent κs a)) l
+    ∙ ap (λ (w : Buffers). planTold hall kept elims 2 w) b
+    ∙ hall-told
+
+-- the sweeps' and the operator's vectors and buffers fit, and the order serves each chunk as often as it has spans, on either side
+pub kept-fits : SweepFits hall kept 2 (replicate 3 0) (f 2 ∷ []) (replicate 5 (f 0)) (replicate 3 0)
+unfolding gather gatherN blockColumns offsetOf chunkCount
+kept-fits = record { map-fits = le-refl 3; v-fits = refl; rows-fit = refl; progress-fits = refl }
+
+pub elims-fits : SweepFits hall elims 2 (replicate 3 0) (f 3 ∷ f 5 ∷ []) firstRows (replicate 3 0)
+unfolding gather gatherN blockColumns offsetOf chunkCount
+elims-fits = record { map-fits = le-refl 3; v-fits = refl; rows-fit = refl; progress-fits = refl }
+
+pub kept-serves : Serves (chunkCount 5 2) keptLists order
+kept-serves = accepted-serves (chunkCount 5 2) keptLists order (rw kept-accepted)
+
+pub elims-serves : Serves (chunkCount 5 2) elimsLists order
+elims-serves = accepted-serves (chunkCount 5 2) elimsLists order (rw elims-accepted)
+
+pub operator-fits : OperatorFits hall kept elims (replicate 3 0) (record { v = f 2 ∷ []; inverses = inverses; d = []; kept = keptLists; elims = elimsLists })
+    (record { rows = replicate 5 (f 0); t = replicate 2 (f 0); u = replicate 2 (f 0); out = replicate 1 (f 0) })
+unfolding gather gatherN blockColumns offsetOf squareOf squaresBefore dampLength
+operator-fits = record { map-fits = le-refl 3; v-fits = refl; inverses-fit = refl; d-fits = refl; rows-fit = refl; t-fits = refl; u-fits = refl; out-fits = refl }

@@ -8,4 +8,7 @@ pub mod PlanPasses
 pub mod Demand3
 pub mod StepLaws
 pub mod OperatorLaws
+pub mod TellLaws
+pub mod Calls
+pub mod Carried
 pub mod Hall

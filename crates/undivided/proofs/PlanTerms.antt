@@ -18,7 +18,7 @@ use Rattle.plan.specs.Lists.{flat}
 use Rattle.plan.specs.Spans.{chunkCount, Span, spanIn, chunkSpans, sideSpans, Spread, SpanIs}
 use Rattle.plan.specs.SpanWalk.{Chunked, ColumnRises}
 use Rattle.plan.proofs.ChunkLaws.{chunk-there}
-use Rattle.plan.proofs.SpanLaws.{spans-are}
+use Rattle.plan_laws.proofs.SpanLaws.{spans-are}
 use Rattle.products.specs.Orders.{spanTerms, planTerms}
 use Rattle.products.specs.SideSums.{sideTerms}
 use Rattle.undivided.specs.Undivided.{rowOf, ownTerms, chunkTerms, Planned}

@@ -22,7 +22,7 @@ use Rattle.columns.specs.JacobianOps.{landing, landings, sweepTerms}
 use Rattle.plan.specs.Spans.{placeIn, pastLast, Span, columnSpan, localSpans, SpanIs}
 use Rattle.plan.specs.SpanWalk.{Chunked, ColumnRises}
 use Rattle.plan.proofs.ChunkLaws.{in-chunk}
-use Rattle.plan.proofs.SpanLaws.{spans-are}
+use Rattle.plan_laws.proofs.SpanLaws.{spans-are}
 use Rattle.undivided.specs.Undivided.{rowOf, ownTerms}
 
 -- ---- places

@@ -18,7 +18,7 @@ use Rattle.plan.specs.Spans.{chunkCount, Spread}
 use Rattle.products.specs.Orders.{badPlan, badOrder, signOf, earlyChunked, lateBlocks, sweepLengths, startRows, sweepTold₁₄, sweepOf}
 use Rattle.products.specs.SideSums.{sideTerms}
 use Rattle.products.specs.Steps.{stepsOf}
-use Rattle.products.proofs.StepLaws.{steps-rows}
+use Rattle.product_laws.proofs.StepLaws.{steps-rows}
 use Rattle.undivided.specs.Undivided.{SidePlanned}
 use Rattle.undivided.proofs.Demand3.{rows-of-order}
 
@@ -39,6 +39,9 @@ module _ (e : Bool) (m : Columns) (kept elims : List ℕ) (len : ℕ) (map : Lis
       let b = both-pass (lateBlocks m kept elims) _ (a .1) in
       let c = both-pass lengths (orElse lent orderTold) (b .1) in
       (c .0, both-pass lent orderTold (c .1) .1)
+
+  pub order-passes : Passes orderTold
+  order-passes = passes .1
 
   start-length : length (startRows e rows) ≡ m .nrows
   start-length = go e ∙ lengths-right (sweepLengths m (sideOf e kept elims) len v s rows progress) (passes .0) 5 (omega arith)

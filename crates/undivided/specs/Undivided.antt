@@ -2,7 +2,7 @@
 use mathlib.Core.Path.{_≡_}
 use mathlib.Core.Bool.{Bool, cond}
 use mathlib.Core.List.{List, map}
-use Prim.Native.Nat.{ℕ, _+_, _<_}
+use Prim.Native.Nat.{ℕ, _+_, _≤_, _<_}
 use lib.ListN.{length, getD, take}
 use lib.Ieee.{Float}
 use Rattle.ground.specs.Fold.{folded}
@@ -11,13 +11,15 @@ use Rattle.ground.specs.Buckets.{bucket}
 use Rattle.columns.specs.declared.unchecked.Sign.{Sign}
 use Rattle.columns.specs.Columns.{Columns, columnCount, Keeps}
 use Rattle.columns.specs.Sums.{RowTerm, product, joined}
-use Rattle.blocks.specs.Sides.{sideOf}
+use Rattle.blocks.specs.Sides.{sideDof, sideOf}
 use Rattle.blocks.specs.Claims.{Parted}
+use Rattle.blocks.specs.BlockValues.{valueCount}
 use Rattle.plan.specs.Lists.{startsOf}
 use Rattle.plan.specs.Spans.{chunkCount, chunkSpans, sideSpans, Spread}
 use Rattle.plan.specs.SpanWalk.{Chunked}
 use Rattle.plan.specs.Plan.{Buffers}
 use Rattle.products.specs.Orders.{spanTerms, served, spanCount}
+use Rattle.products.specs.Operator.{Operands, Work, dampLength}
 
 -- ---- one row
 
@@ -77,3 +79,34 @@ pub record Lengths (chunks : ℕ) (s : Spread) : Type 0 where
 pub record Serves (chunks : ℕ) (s : Spread) (order : List ℕ) : Type 0 where
   pub each : (c : ℕ) → c < chunks → served order c (length order) ≡ spanCount s c
   pub only : (i : ℕ) → i < length order → getD order i 0 < chunks
+
+-- ---- calls over a plan
+
+-- what a call over one side's plan is lent of it: columns, both sides, chunk length, and the side's four lists
+pub record OverPlan : Type 0 where
+  pub columns : Columns
+  pub kept : List ℕ
+  pub elims : List ℕ
+  pub len : ℕ
+  pub lists : Spread
+
+abbrev pub PlannedOver : Bool → OverPlan → Type 0
+PlannedOver e l = SidePlanned (l .columns) (l .kept) (l .elims) e (l .len) (l .lists)
+
+-- all else that a sweep or a step is lent has its length: the map has room, and v, rows and progress are as long as 11 asks
+pub record SweepFits (m : Columns) (side : List ℕ) (len : ℕ) (map : List ℕ) (v rows : List Float) (progress : List ℕ) : Type 0 where
+  pub map-fits : columnCount m ≤ length map
+  pub v-fits : length v ≡ sideDof side
+  pub rows-fit : length rows ≡ m .nrows
+  pub progress-fits : length progress ≡ chunkCount (m .nrows) len
+
+-- and so of the operator: d is empty or as long as v
+pub record OperatorFits (m : Columns) (kept elims map : List ℕ) (o : Operands) (w : Work) : Type 0 where
+  pub map-fits : columnCount m ≤ length map
+  pub v-fits : length (o .v) ≡ sideDof kept
+  pub inverses-fit : length (o .inverses) ≡ valueCount elims
+  pub d-fits : dampLength (length (o .d)) (sideDof kept) ≡ sideDof kept
+  pub rows-fit : length (w .rows) ≡ m .nrows
+  pub t-fits : length (w .t) ≡ sideDof elims
+  pub u-fits : length (w .u) ≡ sideDof elims
+  pub out-fits : length (w .out) ≡ sideDof kept

@@ -4,7 +4,7 @@ use mathlib.Core.List.{List}
 use mathlib.Core.Path.{refl, _∙_}
 use Prim.Native.Nat.{ℕ}
 use Rattle.columns.specs.Columns.{Columns, columnsOf}
-use Rattle.products.proofs.OperatorCalls.{operator-refused, operator-chunked, operator-dofs, operator-limited, operator-later, kept-spans, elims-spans, elims-gather, kept-gather, inverses-fit, damp-fits, operator-done}
+use Rattle.products.proofs.OperatorCalls.{operator-refused, operator-asked, operator-dofs, operator-limited, operator-later, kept-spans, elims-spans, elims-gather, kept-gather, inverses-fit, damp-fits, operator-done}
 use Rattle.products.proofs.OperatorRules.{operating}
 use Rattle.products.specs.Operator.{Operands, Work}
 use Rattle.products.proofs.operator.apply_schur_operator.Statement.{statement}
@@ -67,7 +67,7 @@ check-operands-requires c κs =
     let elims : List ℕ = b30 .args .elims .now in
     let o : Operands = record { v = b30 .args .v .now; inverses = b30 .args .inverses .now; d = b30 .args .d .now; kept = record { starts = b30 .args .kept-starts .now; lo = b30 .args .kept-lo .now; hi = b30 .args .kept-hi .now; local = b30 .args .kept-local .now }; elims = record { starts = b30 .args .elims-starts .now; lo = b30 .args .elims-lo .now; hi = b30 .args .elims-hi .now; local = b30 .args .elims-local .now } } in
     let w : Work = record { rows = b30 .args .y .now; t = b30 .args .t .now; u = b30 .args .u .now; out = b30 .args .out .now } in
-    operator-chunked m kept elims (b30 .args .chunk-len) (b30 .args .map .now) o w (b7 .check-chunked .result) _ (b7 .check-chunked .ensures) (b3 .enum-told .given .1)
+    operator-asked m kept elims (b30 .args .chunk-len) (b30 .args .map .now) o w (b7 .check-chunked .result) _ (b7 .check-chunked .ensures) (b3 .enum-told .given .1)
 
 returns-2 : tie.Need-returns-2
 returns-2 c =

@@ -8,17 +8,17 @@ use Rattle.products.specs.PlanCheck.{rowsOnly}
 use Rattle.products.proofs.operator.check_operands.Statement.{statement}
 use Rattle.products.proofs.operator.check_operands.Tie as tie
 
-add-t25 : tie.Need-add-t25
-add-t25 c =
+add-t26 : tie.Need-add-t26
+add-t26 c =
     let b1 = c .before in
-    let b11 = b1 .before .before .before .before .before .before .before .before .before .before in
-    omega (arith, few-chunks _ _ _ (b11 .pre) (b1 .chunk-count .ensures))
+    let b11 = b1 .before .before .before .before .before .before .before .before .before .before .before in
+    omega (arith, few-chunks _ _ _ (b11 .pre .1) (b1 .chunk-count .ensures))
 
-add-t29 : tie.Need-add-t29
-add-t29 c =
+add-t30 : tie.Need-add-t30
+add-t30 c =
     let b1 = c .before in
-    let b11 = b1 .before .before .before .before .before .before .before .before .before .before in
-    omega (arith, few-chunks _ _ _ (b11 .pre) (b1 .chunk-count .ensures))
+    let b11 = b1 .before .before .before .before .before .before .before .before .before .before .before in
+    omega (arith, few-chunks _ _ _ (b11 .pre .1) (b1 .chunk-count .ensures))
 
 returns : tie.Need-returns
 returns c =
@@ -26,7 +26,7 @@ returns c =
     let b3 = b1 .before .before in
     let b5 = b3 .before .before in
     let b6 = b5 .before in
-    let b16 = b6 .before .before .before .before .before .before .before .before .before .before in
+    let b16 = b6 .before .before .before .before .before .before .before .before .before .before .before in
     let z : Sizes = record { v = b16 .args .sizes .v; inverses = b16 .args .sizes .inverses; d = b16 .args .sizes .d; rows = b16 .args .sizes .rows; t = b16 .args .sizes .t; u = b16 .args .sizes .u; out = b16 .args .sizes .out } in
     let ks : Spread = record { starts = b16 .args .kept-starts .now; lo = b16 .args .kept-lo .now; hi = b16 .args .kept-hi .now; local = b16 .args .kept-local .now } in
     let es : Spread = record { starts = b16 .args .elims-starts .now; lo = b16 .args .elims-lo .now; hi = b16 .args .elims-hi .now; local = b16 .args .elims-local .now } in
@@ -37,11 +37,11 @@ check-plan-requires c κs =
     let b2 = c .before .before in
     let b4 = b2 .before .before in
     let b5 = b4 .before in
-    let b15 = b5 .before .before .before .before .before .before .before .before .before .before in
+    let b15 = b5 .before .before .before .before .before .before .before .before .before .before .before in
     let z : Sizes = record { v = b15 .args .sizes .v; inverses = b15 .args .sizes .inverses; d = b15 .args .sizes .d; rows = b15 .args .sizes .rows; t = b15 .args .sizes .t; u = b15 .args .sizes .u; out = b15 .args .sizes .out } in
     let ks : Spread = record { starts = b15 .args .kept-starts .now; lo = b15 .args .kept-lo .now; hi = b15 .args .kept-hi .now; local = b15 .args .kept-local .now } in
     let es : Spread = record { starts = b15 .args .elims-starts .now; lo = b15 .args .elims-lo .now; hi = b15 .args .elims-hi .now; local = b15 .args .elims-local .now } in
-    kept-there _ (rowsOnly (b15 .args .rows .now)) _ (b15 .args .kept-dof) (b15 .args .elims-dof) (b15 .args .count) z ks es _ _ (b2 .wrong-length .result) (b5 .chunk-count .ensures) (b4 .damp-length .ensures) (b2 .wrong-length .ensures) (c .enum-told .given .1) (b15 .pre)
+    (b15 .pre .0, kept-there _ (rowsOnly (b15 .args .rows .now)) _ (b15 .args .kept-dof) (b15 .args .elims-dof) (b15 .args .count) z ks es _ _ (b2 .wrong-length .result) (b5 .chunk-count .ensures) (b4 .damp-length .ensures) (b2 .wrong-length .ensures) (c .enum-told .given .1) (b15 .pre .1))
 
 returns-2 : tie.Need-returns-2
 returns-2 c =
@@ -51,7 +51,7 @@ returns-2 c =
     let b6 = b4 .before .before in
     let b8 = b6 .before .before in
     let b9 = b8 .before in
-    let b19 = b9 .before .before .before .before .before .before .before .before .before .before in
+    let b19 = b9 .before .before .before .before .before .before .before .before .before .before .before in
     let z : Sizes = record { v = b19 .args .sizes .v; inverses = b19 .args .sizes .inverses; d = b19 .args .sizes .d; rows = b19 .args .sizes .rows; t = b19 .args .sizes .t; u = b19 .args .sizes .u; out = b19 .args .sizes .out } in
     let ks : Spread = record { starts = b19 .args .kept-starts .now; lo = b19 .args .kept-lo .now; hi = b19 .args .kept-hi .now; local = b19 .args .kept-local .now } in
     let es : Spread = record { starts = b19 .args .elims-starts .now; lo = b19 .args .elims-lo .now; hi = b19 .args .elims-hi .now; local = b19 .args .elims-local .now } in
@@ -63,11 +63,11 @@ check-plan-requires-2 c κs =
     let b5 = b3 .before .before in
     let b7 = b5 .before .before in
     let b8 = b7 .before in
-    let b18 = b8 .before .before .before .before .before .before .before .before .before .before in
+    let b18 = b8 .before .before .before .before .before .before .before .before .before .before .before in
     let z : Sizes = record { v = b18 .args .sizes .v; inverses = b18 .args .sizes .inverses; d = b18 .args .sizes .d; rows = b18 .args .sizes .rows; t = b18 .args .sizes .t; u = b18 .args .sizes .u; out = b18 .args .sizes .out } in
     let ks : Spread = record { starts = b18 .args .kept-starts .now; lo = b18 .args .kept-lo .now; hi = b18 .args .kept-hi .now; local = b18 .args .kept-local .now } in
     let es : Spread = record { starts = b18 .args .elims-starts .now; lo = b18 .args .elims-lo .now; hi = b18 .args .elims-hi .now; local = b18 .args .elims-local .now } in
-    elims-there _ (rowsOnly (b18 .args .rows .now)) _ (b18 .args .kept-dof) (b18 .args .elims-dof) (b18 .args .count) z ks es _ _ (b5 .wrong-length .result) (b8 .chunk-count .ensures) (b7 .damp-length .ensures) (b5 .wrong-length .ensures) (b3 .enum-told .given .1) (b18 .pre)
+    (b18 .pre .0, elims-there _ (rowsOnly (b18 .args .rows .now)) _ (b18 .args .kept-dof) (b18 .args .elims-dof) (b18 .args .count) z ks es _ _ (b5 .wrong-length .result) (b8 .chunk-count .ensures) (b7 .damp-length .ensures) (b5 .wrong-length .ensures) (b3 .enum-told .given .1) (b18 .pre .1))
 
 returns-3 : tie.Need-returns-3
 returns-3 c =
@@ -77,7 +77,7 @@ returns-3 c =
     let b6 = b4 .before .before in
     let b8 = b6 .before .before in
     let b9 = b8 .before in
-    let b19 = b9 .before .before .before .before .before .before .before .before .before .before in
+    let b19 = b9 .before .before .before .before .before .before .before .before .before .before .before in
     let z : Sizes = record { v = b19 .args .sizes .v; inverses = b19 .args .sizes .inverses; d = b19 .args .sizes .d; rows = b19 .args .sizes .rows; t = b19 .args .sizes .t; u = b19 .args .sizes .u; out = b19 .args .sizes .out } in
     let ks : Spread = record { starts = b19 .args .kept-starts .now; lo = b19 .args .kept-lo .now; hi = b19 .args .kept-hi .now; local = b19 .args .kept-local .now } in
     let es : Spread = record { starts = b19 .args .elims-starts .now; lo = b19 .args .elims-lo .now; hi = b19 .args .elims-hi .now; local = b19 .args .elims-local .now } in
@@ -86,6 +86,6 @@ returns-3 c =
 pub check-operands-spec : {M : Type 1} → statement M
 check-operands-spec =
     tie.close (tie.spec
-    (λ c κs. search operating) (λ c κs. search operating) add-t25 add-t29 (λ c. search operating) (λ c κs. search operating)
+    (λ c κs. search operating) (λ c κs. search operating) add-t26 add-t30 (λ c. search operating) (λ c κs. search operating)
     (λ c. search operating) returns (λ c. search operating) check-plan-requires (λ c. search operating) returns-2
     (λ c. search operating) check-plan-requires-2 returns-3)

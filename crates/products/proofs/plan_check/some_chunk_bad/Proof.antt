@@ -9,10 +9,10 @@ use Rattle.products.proofs.plan_check.some_chunk_bad.Statement.{stateme
 use Rattle.products.proofs.plan_check.some_chunk_bad.Tie as tie
 
 abbrev Inv-loop : tie.InvT-loop
-Inv-loop rows dof len chunks starts lo hi local c₀ c = some (chunkBad (rowsOnly rows) dof len (record { starts = starts; lo = lo; hi = hi; local = local })) c chunks ≡ some (chunkBad (rowsOnly rows) dof len (record { starts = starts; lo = lo; hi = hi; local = local })) 0 chunks
+Inv-loop ptrs rows dof len chunks starts lo hi local c₀ c = some (chunkBad (rowsOnly rows) dof len (record { starts = starts; lo = lo; hi = hi; local = local })) c chunks ≡ some (chunkBad (rowsOnly rows) dof len (record { starts = starts; lo = lo; hi = hi; local = local })) 0 chunks
 
 abbrev μ-loop : tie.MeasureT-loop
-μ-loop rows dof len chunks starts lo hi local c₀ c = chunks - c
+μ-loop ptrs rows dof len chunks starts lo hi local c₀ c = chunks - c
 
 pub some-chunk-bad-spec : {M : Type 1} → statement M
 some-chunk-bad-spec =

@@ -6,4 +6,5 @@ use Rattle.products.proofs.plan_check.span_bad.Tie as tie
 pub span-bad-spec : {M : Type 1} → statement M
 span-bad-spec =
     tie.close (tie.spec
-    (λ c. search planning) (λ c. search planning) (λ c. search planning) (λ c κs. search planning) (λ c. search planning))
+    (λ c. search planning) (λ c. search planning) (λ c. search planning) (λ c. search planning) (λ c κs. search planning)
+    (λ c. search planning))

@@ -1,5 +1,5 @@
 -- `sweep_check::check_sweep` meets its contract. Assumes nothing.
-use Rattle.products.proofs.SweepRules.{sweep-refused, sweep-sides, sweep-chunked, sweep-later, sweep-done, sweeping}
+use Rattle.products.proofs.SweepRules.{sweep-refused, sweep-sides, sweep-asked, sweep-later, sweep-done, sweeping}
 use Rattle.columns.specs.Columns.{columnsOf}
 use Rattle.products.specs.Side.{eliminated}
 use Rattle.products.proofs.sweep_check.check_sweep.Statement.{statement}
@@ -21,7 +21,7 @@ check-lent-requires : tie.Need-check-lent-requires
 check-lent-requires c κs =
     let s = c .before .before .before .before .before .before .before .before .before .before .before .before .before .before .before .before .before in
     let k = c .before .before .before .before .before .check-chunked in
-    sweep-chunked (eliminated (s .args .side)) (columnsOf (s .args .nrows) (s .args .ptrs .now) (s .args .rows .now) (s .args .values .now)) (s .args .kept .now) (s .args .elims .now) (s .args .chunk-len) (s .args .map .now) (s .args .nv) (record { starts = s .args .starts .now; lo = s .args .lo .now; hi = s .args .hi .now; local = s .args .local .now }) (s .args .ny) (s .args .nprogress) (k .result) _ (k .ensures) (c .before .enum-told .given .1)
+    sweep-asked (eliminated (s .args .side)) (columnsOf (s .args .nrows) (s .args .ptrs .now) (s .args .rows .now) (s .args .values .now)) (s .args .kept .now) (s .args .elims .now) (s .args .chunk-len) (s .args .map .now) (s .args .nv) (record { starts = s .args .starts .now; lo = s .args .lo .now; hi = s .args .hi .now; local = s .args .local .now }) (s .args .ny) (s .args .nprogress) (k .result) _ (k .ensures) (c .before .enum-told .given .1)
 
 returns-2 : tie.Need-returns-2
 returns-2 c =

@@ -1,27 +1,23 @@
--- Columns and blocks that passed their checks give what the spans ask, and so each entry of a side lies in exactly one of the side's spans.
--- Assumes nothing.
+-- Columns and blocks that passed their checks give what `spans` asks. Assumes nothing.
 use mathlib.Core.Path.{_≡_, refl, ap}
 use mathlib.Core.Bool.{Bool, true, false}
 use mathlib.Core.List.{List}
-use Prim.Native.Nat.{ℕ, _+_, _-_, _/_, _≤_, _<_}
+use Prim.Native.Nat.{ℕ, _+_, _-_, _≤_, _<_}
 use native.Mathlib.Omega.{arith}
-use native.Mathlib.Decide.{decLt}
 use lib.ListN.{length, getD}
-use Rattle.ground.specs.Fold.{All}
 use Rattle.ground.proofs.GatherLaws.{gather-same}
 use Rattle.columns.specs.Columns.{Columns, columnCount, entryCount, Keeps}
-use Rattle.columns.proofs.CheckLaws.{column-run, column-there, columns-apart}
+use Rattle.columns.proofs.CheckLaws.{column-run, column-there}
 use Rattle.blocks.specs.Sides.{sideOf, cols, sideDof}
 use Rattle.blocks.specs.Claims.{Parted}
 use Rattle.blocks.proofs.PartLaws.{parted-dofs}
-use Rattle.blocks.proofs.MapLaws.{cols-once, cols-in}
+use Rattle.blocks.proofs.MapLaws.{cols-in}
 use Rattle.plan.specs.Owners.{patternOf}
 use Rattle.plan.specs.Entries.{entriesIn}
-use Rattle.plan.specs.Spans.{chunkCount, placeIn, columnSpan, localSpans, chunkSpans, sideSpans, Spread, spread, spanned, EntryIn, SpanIs, InOne}
+use Rattle.plan.specs.Spans.{chunkCount, placeIn, columnSpan, localSpans, Spread, spread, spanned}
 use Rattle.plan.specs.SpanWalk.{Chunked, ColumnRises, SpansFit}
 use Rattle.plan.proofs.EntryLaws.{entries-same, side-entries}
 use Rattle.plan.proofs.FlatLaws.{flat-same, spread-same}
-use Rattle.plan.proofs.SpanLaws.{spans-are, spans-few, in-one}
 
 -- no span looks at a value
 pub pattern-spans : (m : Columns) (cs : List ℕ) (n len : ℕ) (s : Spread) → spanned (patternOf (m .nrows) (m .ptrs) (m .rows)) cs n len s ≡ spanned m cs n len s
@@ -60,15 +56,6 @@ module _ (m : Columns) (kept elims : List ℕ) (k : Keeps m) (d : Parted (column
         ascends = λ p u v. k .sorted .ascends (columnOf l) p (record { column = g; low = omega arith; high = v }) u;
       }
 
-  -- no entry is two columns'
-  pub side-apart : (p i l : ℕ) → EntryIn m (cols side) (sideDof side) i p → EntryIn m (cols side) (sideDof side) l p → i ≡ l
-  side-apart p i l x y = cols-once (columnCount m) kept elims d e i l (x .column) (y .column) (go (decLt (columnOf i) (columnOf l)) (decLt (columnOf l) (columnOf i)))
-    where
-      go : Dec (columnOf i < columnOf l) → Dec (columnOf l < columnOf i) → columnOf i ≡ columnOf l
-      go (yes u) _ = absurd (omega (arith, columns-apart (k .shaped) (columnOf i) (columnOf l) u (cols-in (columnCount m) kept elims d e l (y .column)), x .high, y .low))
-      go (no u) (yes v) = absurd (omega (arith, columns-apart (k .shaped) (columnOf l) (columnOf i) v (cols-in (columnCount m) kept elims d e i (x .column)), y .high, x .low))
-      go (no u) (no v) = omega arith
-
   pub side-dof : sideDof side ≤ 65_536
   side-dof = go e
     where
@@ -80,18 +67,6 @@ module _ (m : Columns) (kept elims : List ℕ) (k : Keeps m) (d : Parted (column
       go false = omega (arith, sum, k .small .few-columns)
 
   module _ (len : ℕ) (h : Chunked (m .nrows) len) where
-    -- (c) each span of a chunk has an entry, and has just its column's entries in the chunk
-    pub side-are : (c : ℕ) → All (SpanIs m (cols side) (sideDof side) len c) (chunkSpans m side len c)
-    side-are c = spans-are m (cols side) (sideDof side) len h side-rises c
-
-    -- (c) each entry of the side lies in exactly one of its spans, that of its chunk and local number
-    pub side-in-one : (l p : ℕ) → EntryIn m (cols side) (sideDof side) l p → InOne m (cols side) (sideDof side) len (getD (m .rows) p 0 / len) l p
-    side-in-one l p x = in-one m (cols side) (sideDof side) len h side-rises p (side-apart p) l x
-
-    -- (e) no more spans than the columns have entries
-    pub side-few : length (sideSpans m side len) ≤ entryCount m
-    side-few = omega (arith, spans-few m (cols side) (sideDof side) len h side-rises, side-entries m kept elims k d e)
-
     -- what `spans` asks, where the side's columns are the first in a list of columns
     pub side-fit : (cs : List ℕ) (nstarts nlo nhi nlocal : ℕ) → sideDof side ≤ length cs → ((l : ℕ) → l < sideDof side → getD cs l 0 ≡ columnOf l)
         → chunkCount (m .nrows) len < nstarts → entryCount m ≤ nlo → entryCount m ≤ nhi → entryCount m ≤ nlocal

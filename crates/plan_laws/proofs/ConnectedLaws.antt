@@ -118,16 +118,6 @@ module _ (m : Columns) (elims : List ℕ) where
       go false f o =
           let p : Passes (connectedTold es) = (rw f refl) in
           absurd (c .differ (sym (o p (c .row) (c .one) (c .one-there) (c .one-in)) ∙ o p (c .row) (c .other) (c .other-there) (c .other-in)))
-
-  -- an owner that is no mark is an eliminated block with an entry in the row
-  pub owner-has : (r : ℕ) → (ownerOf m elims r ≡ mark → ⊥) → (ownerOf m elims r < blockCount elims) × (inBlock m elims r (ownerOf m elims r) ≡ true)
-  unfolding ownerOf
-  owner-has r ne = go (some (inBlock m elims r) 0 (blockCount elims)) refl ne
-    where
-      go : (b : Bool) → some (inBlock m elims r) 0 (blockCount elims) ≡ b → (cond b (first (inBlock m elims r) 0 (blockCount elims)) mark ≡ mark → ⊥)
-          → (cond b (first (inBlock m elims r) 0 (blockCount elims)) mark < blockCount elims) × (inBlock m elims r (cond b (first (inBlock m elims r) 0 (blockCount elims)) mark) ≡ true)
-      go true e ne = let h = ltb-true (first (inBlock m elims r) 0 (blockCount elims)) (blockCount elims) e in (h, first-bad (inBlock m elims r) 0 (blockCount elims) h)
-      go false e ne = absurd (ne refl)
 
   -- and the mark stands where no eliminated block has one
   pub owner-none : (r : ℕ) → ((b : ℕ) → b < blockCount elims → inBlock m elims r b ≡ false) → ownerOf m elims r ≡ mark

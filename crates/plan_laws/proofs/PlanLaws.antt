@@ -12,14 +12,18 @@ use borrow.Author.Tests.{ne-eqb, le-ltb}
 use Rattle.columns.specs.Refusals.{Told, tell, done, Passes, onPass, orElse}
 use Rattle.columns.specs.Lengths.{lengthOf, needOf}
 use Rattle.columns.specs.Columns.{Columns, columnCount, Keeps}
-use Rattle.columns.proofs.CallLaws.{room-done}
-use Rattle.blocks.specs.Claims.{Parted}
-use Rattle.blocks.proofs.PartLaws.{parted-parts, parted-late}
+use Rattle.columns.proofs.RefusalLaws.{both-pass}
+use Rattle.columns.proofs.CheckLaws.{passes-keeps}
+use Rattle.columns.proofs.CallLaws.{room-done, room-right}
+use Rattle.blocks.specs.Claims.{partsTold, Parted}
+use Rattle.blocks.proofs.CallRules.{parts-passes}
+use Rattle.blocks.proofs.PartLaws.{parted-parts, parted-late, walk-parted}
 use Rattle.plan.specs.Owners.{sideEntries, firstClash, connectedTold, Connects}
 use Rattle.plan.specs.Spans.{chunkTold, sideSpans}
-use Rattle.plan.specs.Plan.{Buffers, room, planEarly, planConnected, planTold, planOf, planLeft}
-use Rattle.plan.proofs.ConnectedLaws.{told-connects, connects-told}
+use Rattle.plan.specs.Plan.{Buffers, room, planEarly, planBlocks, planConnected, planTold, planOf, planLeft}
+use Rattle.plan_laws.proofs.ConnectedLaws.{told-connects, connects-told}
+use Rattle.plan.proofs.ChunkLaws.{chunk-passes}
 use Rattle.plan.proofs.OwnerCalls.{told-pass}
 
 -- columns and blocks keep the rules, the chunk length is within the limits, and no buffer is shorter than its need
 pub record Sound (m : Columns) (kept elims : List ℕ) (len : ℕ) (b : Buffers) : Type 0 where
@@ -29,7 +33,7 @@ pub record Sound (m : Columns) (kept elims : List ℕ) (len : ℕ) (b : Buffers)
   pub few-len : len ≤ 1_048_576
   pub roomy : (k : ℕ) → k < length (room m kept elims len b) / 2 → needOf (room m kept elims len b) k ≤ lengthOf (room m kept elims len b) k
 
-chunk-done : (len : ℕ) → 0 < len → len ≤ 1_048_576 → chunkTold len ≡ done
+pub chunk-done : (len : ℕ) → 0 < len → len ≤ 1_048_576 → chunkTold len ≡ done
 unfolding chunkTold
 chunk-done len s f = rw (ne-eqb len 0 (λ e. omega arith), le-ltb 1_048_576 len f)
 
@@ -93,3 +97,20 @@ module _ (m : Columns) (kept elims : List ℕ) (len : ℕ) (b : Buffers) (s : So
 
   pub planned-unconnected : Passes (planTold m kept elims len b) → Connects m elims → ⊥
   planned-unconnected p c = let q = connected-number c in omega arith
+
+-- an answer of 0 gives all of that back: so planning answers 0 exactly if it is sound and no row connects two eliminated blocks
+pub passes-sound : (m : Columns) (kept elims : List ℕ) (len : ℕ) (b : Buffers) → Passes (planTold m kept elims len b) → Sound m kept elims len b
+unfolding planTold
+passes-sound m kept elims len b p =
+    let a = both-pass (planEarly m kept elims len b) _ p in
+    let e = both-pass (partsTold m kept elims (chunkTold len)) _ (a .0) in
+    let parts = parts-passes m kept elims (chunkTold len) (e .0) in
+    let k = passes-keeps m (parts .0) in
+    let c = chunk-passes (m .nrows) len (parts .3) (k .small .few-rows) in
+    record {
+      keeps = k;
+      parted = walk-parted m kept elims (parts .1) (parts .2) (both-pass (planBlocks m kept elims) _ (a .1) .0);
+      some-len = c .some-len;
+      few-len = c .few-len;
+      roomy = room-right (room m kept elims len b) (e .1);
+    }
