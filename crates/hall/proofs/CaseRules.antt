@@ -30,10 +30,13 @@ pub floats-held : (expected : List Float) {got : List Float} {figures : List Flo
 floats-held expected e q t = e ∙ ap (λ (l : List Float). floatsBegin l expected) q ∙ t
 
 -- n is what `answer_numbers` or `plan_numbers` gave, r what `are` answered
+pub numbers-told : (number count first second : ℕ) {n : Numbers} {given expected : Told} {r : Bool} → r ≡ tells n number count first second → n ≡ numbersOf given
+    → given ≡ expected → r ≡ tells (numbersOf expected) number count first second
+numbers-told number count first second e n q = e ∙ ap (λ (m : Numbers). tells m number count first second) (n ∙ ap numbersOf q)
+
 pub numbers-held : (number count first second : ℕ) {n : Numbers} {given expected : Told} {r : Bool} → r ≡ tells n number count first second → n ≡ numbersOf given
     → given ≡ expected → tells (numbersOf expected) number count first second ≡ true → r ≡ true
-numbers-held number count first second e n q t =
-    e ∙ ap (λ (m : Numbers). tells m number count first second) (n ∙ ap numbersOf q) ∙ t
+numbers-held number count first second e n q t = numbers-told number count first second e n q ∙ t
 
 -- r is what `is_sum` answered
 pub sum-held : (sum : Float) {given figures : List Float} {r : Bool} → r ≡ isSum given sum → given ≡ figures → isSum figures sum ≡ true → r ≡ true
