@@ -10,66 +10,6 @@ use borrow.Author.Needs.{needs}
 use Rattle.hall.proofs.cases.case2.Statement.{statement}
 use Rattle.hall.proofs.cases.case2.Tie as tie
 
-slice-aggregate-plan-hall : tie.Need-slice-aggregate-plan-hall
-slice-aggregate-plan-hall c = search needs
-
-plan-hall-requires : tie.Need-plan-hall-requires
-plan-hall-requires c κs = search needs
-
-plan-numbers-requires : tie.Need-plan-numbers-requires
-plan-numbers-requires c κs = search needs
-
-are-requires : tie.Need-are-requires
-are-requires c κs = search needs
-
-slice-aggregate-same : tie.Need-slice-aggregate-same
-slice-aggregate-same c = search needs
-
-same-requires : tie.Need-same-requires
-same-requires c κs = search needs
-
-slice-aggregate-same-2 : tie.Need-slice-aggregate-same-2
-slice-aggregate-same-2 c = search needs
-
-same-requires-2 : tie.Need-same-requires-2
-same-requires-2 c κs = search needs
-
-slice-aggregate-same-3 : tie.Need-slice-aggregate-same-3
-slice-aggregate-same-3 c = search needs
-
-same-requires-3 : tie.Need-same-requires-3
-same-requires-3 c κs = search needs
-
-slice-aggregate-same-4 : tie.Need-slice-aggregate-same-4
-slice-aggregate-same-4 c = search needs
-
-same-requires-4 : tie.Need-same-requires-4
-same-requires-4 c κs = search needs
-
-slice-aggregate-same-5 : tie.Need-slice-aggregate-same-5
-slice-aggregate-same-5 c = search needs
-
-same-requires-5 : tie.Need-same-requires-5
-same-requires-5 c κs = search needs
-
-slice-aggregate-same-6 : tie.Need-slice-aggregate-same-6
-slice-aggregate-same-6 c = search needs
-
-same-requires-6 : tie.Need-same-requires-6
-same-requires-6 c κs = search needs
-
-slice-aggregate-same-7 : tie.Need-slice-aggregate-same-7
-slice-aggregate-same-7 c = search needs
-
-same-requires-7 : tie.Need-same-requires-7
-same-requires-7 c κs = search needs
-
-slice-aggregate-same-8 : tie.Need-slice-aggregate-same-8
-slice-aggregate-same-8 c = search needs
-
-same-requires-8 : tie.Need-same-requires-8
-same-requires-8 c κs = search needs
-
 returns : tie.Need-returns
 returns c =
     let b5 = c .before .before .before .before .before in
@@ -92,4 +32,9 @@ returns c =
     (list-held (elimsLists .local) (replicate 5 7) (c .same8 .ensures) (ap (λ (o : Outcome). o .left .elims .local) e))
 
 pub case2-spec : {M : Type 1} → statement M
-case2-spec = tie.close (tie.spec slice-aggregate-plan-hall plan-hall-requires plan-numbers-requires are-requires slice-aggregate-same same-requires slice-aggregate-same-2 same-requires-2 slice-aggregate-same-3 same-requires-3 slice-aggregate-same-4 same-requires-4 slice-aggregate-same-5 same-requires-5 slice-aggregate-same-6 same-requires-6 slice-aggregate-same-7 same-requires-7 slice-aggregate-same-8 same-requires-8 returns)
+case2-spec =
+    tie.close (tie.spec
+    (λ c. search needs) (λ c κs. search needs) (λ c κs. search needs) (λ c κs. search needs) (λ c. search needs)
+    (λ c κs. search needs) (λ c. search needs) (λ c κs. search needs) (λ c. search needs) (λ c κs. search needs) (λ c. search needs)
+    (λ c κs. search needs) (λ c. search needs) (λ c κs. search needs) (λ c. search needs) (λ c κs. search needs) (λ c. search needs)
+    (λ c κs. search needs) (λ c. search needs) (λ c κs. search needs) returns)

@@ -12,60 +12,6 @@ use borrow.Author.Needs.{needs}
 use Rattle.hall.proofs.cases.case3.Statement.{statement}
 use Rattle.hall.proofs.cases.case3.Tie as tie
 
-slice-aggregate-operate : tie.Need-slice-aggregate-operate
-slice-aggregate-operate c = search needs
-
-operate-requires : tie.Need-operate-requires
-operate-requires c κs = search needs
-
-slice-aggregate-operate-2 : tie.Need-slice-aggregate-operate-2
-slice-aggregate-operate-2 c = search needs
-
-operate-requires-2 : tie.Need-operate-requires-2
-operate-requires-2 c κs = search needs
-
-answer-numbers-requires : tie.Need-answer-numbers-requires
-answer-numbers-requires c κs = search needs
-
-are-requires : tie.Need-are-requires
-are-requires c κs = search needs
-
-slice-aggregate-same-floats : tie.Need-slice-aggregate-same-floats
-slice-aggregate-same-floats c = search needs
-
-same-floats-requires : tie.Need-same-floats-requires
-same-floats-requires c κs = search needs
-
-slice-aggregate-same-floats-2 : tie.Need-slice-aggregate-same-floats-2
-slice-aggregate-same-floats-2 c = search needs
-
-same-floats-requires-2 : tie.Need-same-floats-requires-2
-same-floats-requires-2 c κs = search needs
-
-slice-aggregate-same-floats-3 : tie.Need-slice-aggregate-same-floats-3
-slice-aggregate-same-floats-3 c = search needs
-
-same-floats-requires-3 : tie.Need-same-floats-requires-3
-same-floats-requires-3 c κs = search needs
-
-slice-aggregate-same-floats-4 : tie.Need-slice-aggregate-same-floats-4
-slice-aggregate-same-floats-4 c = search needs
-
-same-floats-requires-4 : tie.Need-same-floats-requires-4
-same-floats-requires-4 c κs = search needs
-
-answer-numbers-requires-2 : tie.Need-answer-numbers-requires-2
-answer-numbers-requires-2 c κs = search needs
-
-are-requires-2 : tie.Need-are-requires-2
-are-requires-2 c κs = search needs
-
-slice-aggregate-same-floats-5 : tie.Need-slice-aggregate-same-floats-5
-slice-aggregate-same-floats-5 c = search needs
-
-same-floats-requires-5 : tie.Need-same-floats-requires-5
-same-floats-requires-5 c κs = search needs
-
 returns : tie.Need-returns
 unfolding ofInt ofBits eq div firstN first sameFloat floatsDiffer floatsBegin
 returns c =
@@ -87,4 +33,9 @@ returns c =
     (floats-held (f 2 ∷ []) (c .same-floats5 .ensures) (ap (λ (o : Operated). o .work .out) d) refl)
 
 pub case3-spec : {M : Type 1} → statement M
-case3-spec = tie.close (tie.spec slice-aggregate-operate operate-requires slice-aggregate-operate-2 operate-requires-2 answer-numbers-requires are-requires slice-aggregate-same-floats same-floats-requires slice-aggregate-same-floats-2 same-floats-requires-2 slice-aggregate-same-floats-3 same-floats-requires-3 slice-aggregate-same-floats-4 same-floats-requires-4 answer-numbers-requires-2 are-requires-2 slice-aggregate-same-floats-5 same-floats-requires-5 returns)
+case3-spec =
+    tie.close (tie.spec
+    (λ c. search needs) (λ c κs. search needs) (λ c. search needs) (λ c κs. search needs) (λ c κs. search needs)
+    (λ c κs. search needs) (λ c. search needs) (λ c κs. search needs) (λ c. search needs) (λ c κs. search needs) (λ c. search needs)
+    (λ c κs. search needs) (λ c. search needs) (λ c κs. search needs) (λ c κs. search needs) (λ c κs. search needs)
+    (λ c. search needs) (λ c κs. search needs) returns)

@@ -12,51 +12,6 @@ use borrow.Author.Needs.{needs}
 use Rattle.hall.proofs.cases.case4_times.Statement.{statement}
 use Rattle.hall.proofs.cases.case4_times.Tie as tie
 
-slice-aggregate-coupling-times : tie.Need-slice-aggregate-coupling-times
-slice-aggregate-coupling-times c = search needs
-
-slice-aggregate-coupling-times-2 : tie.Need-slice-aggregate-coupling-times-2
-slice-aggregate-coupling-times-2 c = search needs
-
-slice-aggregate-coupling-times-3 : tie.Need-slice-aggregate-coupling-times-3
-slice-aggregate-coupling-times-3 c = search needs
-
-slice-aggregate-coupling-times-4 : tie.Need-slice-aggregate-coupling-times-4
-slice-aggregate-coupling-times-4 c = search needs
-
-slice-aggregate-coupling-times-5 : tie.Need-slice-aggregate-coupling-times-5
-slice-aggregate-coupling-times-5 c = search needs
-
-slice-aggregate-coupling-times-6 : tie.Need-slice-aggregate-coupling-times-6
-slice-aggregate-coupling-times-6 c = search needs
-
-slice-aggregate-coupling-times-7 : tie.Need-slice-aggregate-coupling-times-7
-slice-aggregate-coupling-times-7 c = search needs
-
-slice-aggregate-coupling-times-8 : tie.Need-slice-aggregate-coupling-times-8
-slice-aggregate-coupling-times-8 c = search needs
-
-slice-aggregate-coupling-times-9 : tie.Need-slice-aggregate-coupling-times-9
-slice-aggregate-coupling-times-9 c = search needs
-
-coupling-times-requires : tie.Need-coupling-times-requires
-coupling-times-requires c κs = search needs
-
-answer-numbers-requires : tie.Need-answer-numbers-requires
-answer-numbers-requires c κs = search needs
-
-are-requires : tie.Need-are-requires
-are-requires c κs = search needs
-
-slice-aggregate-same-floats : tie.Need-slice-aggregate-same-floats
-slice-aggregate-same-floats c = search needs
-
-slice-aggregate-same-floats-2 : tie.Need-slice-aggregate-same-floats-2
-slice-aggregate-same-floats-2 c = search needs
-
-same-floats-requires : tie.Need-same-floats-requires
-same-floats-requires c κs = search needs
-
 returns : tie.Need-returns
 unfolding ofInt ofBits eq div firstN first sameFloat floatsDiffer floatsBegin
 returns c =
@@ -66,4 +21,8 @@ returns c =
     (floats-held (f 23 ∷ []) (c .same-floats .ensures) (ap (λ (o : Coupled). o .out) e) refl)
 
 pub case4-times-spec : {M : Type 1} → statement M
-case4-times-spec = tie.close (tie.spec slice-aggregate-coupling-times slice-aggregate-coupling-times-2 slice-aggregate-coupling-times-3 slice-aggregate-coupling-times-4 slice-aggregate-coupling-times-5 slice-aggregate-coupling-times-6 slice-aggregate-coupling-times-7 slice-aggregate-coupling-times-8 slice-aggregate-coupling-times-9 coupling-times-requires answer-numbers-requires are-requires slice-aggregate-same-floats slice-aggregate-same-floats-2 same-floats-requires returns)
+case4-times-spec =
+    tie.close (tie.spec
+    (λ c. search needs) (λ c. search needs) (λ c. search needs) (λ c. search needs) (λ c. search needs) (λ c. search needs)
+    (λ c. search needs) (λ c. search needs) (λ c. search needs) (λ c κs. search needs) (λ c κs. search needs) (λ c κs. search needs)
+    (λ c. search needs) (λ c. search needs) (λ c κs. search needs) returns)

@@ -11,60 +11,6 @@ use borrow.Author.Needs.{needs}
 use Rattle.hall.proofs.cases.case4_transpose.Statement.{statement}
 use Rattle.hall.proofs.cases.case4_transpose.Tie as tie
 
-slice-aggregate-coupling-transpose-times : tie.Need-slice-aggregate-coupling-transpose-times
-slice-aggregate-coupling-transpose-times c = search needs
-
-slice-aggregate-coupling-transpose-times-2 : tie.Need-slice-aggregate-coupling-transpose-times-2
-slice-aggregate-coupling-transpose-times-2 c = search needs
-
-slice-aggregate-coupling-transpose-times-3 : tie.Need-slice-aggregate-coupling-transpose-times-3
-slice-aggregate-coupling-transpose-times-3 c = search needs
-
-slice-aggregate-coupling-transpose-times-4 : tie.Need-slice-aggregate-coupling-transpose-times-4
-slice-aggregate-coupling-transpose-times-4 c = search needs
-
-slice-aggregate-coupling-transpose-times-5 : tie.Need-slice-aggregate-coupling-transpose-times-5
-slice-aggregate-coupling-transpose-times-5 c = search needs
-
-slice-aggregate-coupling-transpose-times-6 : tie.Need-slice-aggregate-coupling-transpose-times-6
-slice-aggregate-coupling-transpose-times-6 c = search needs
-
-slice-aggregate-coupling-transpose-times-7 : tie.Need-slice-aggregate-coupling-transpose-times-7
-slice-aggregate-coupling-transpose-times-7 c = search needs
-
-slice-aggregate-coupling-transpose-times-8 : tie.Need-slice-aggregate-coupling-transpose-times-8
-slice-aggregate-coupling-transpose-times-8 c = search needs
-
-slice-aggregate-coupling-transpose-times-9 : tie.Need-slice-aggregate-coupling-transpose-times-9
-slice-aggregate-coupling-transpose-times-9 c = search needs
-
-coupling-transpose-times-requires : tie.Need-coupling-transpose-times-requires
-coupling-transpose-times-requires c κs = search needs
-
-answer-numbers-requires : tie.Need-answer-numbers-requires
-answer-numbers-requires c κs = search needs
-
-are-requires : tie.Need-are-requires
-are-requires c κs = search needs
-
-slice-aggregate-same-floats : tie.Need-slice-aggregate-same-floats
-slice-aggregate-same-floats c = search needs
-
-slice-aggregate-same-floats-2 : tie.Need-slice-aggregate-same-floats-2
-slice-aggregate-same-floats-2 c = search needs
-
-same-floats-requires : tie.Need-same-floats-requires
-same-floats-requires c κs = search needs
-
-slice-aggregate-same-floats-3 : tie.Need-slice-aggregate-same-floats-3
-slice-aggregate-same-floats-3 c = search needs
-
-slice-aggregate-same-floats-4 : tie.Need-slice-aggregate-same-floats-4
-slice-aggregate-same-floats-4 c = search needs
-
-same-floats-requires-2 : tie.Need-same-floats-requires-2
-same-floats-requires-2 c κs = search needs
-
 returns : tie.Need-returns
 unfolding ofInt ofBits eq div firstN first sameFloat floatsDiffer floatsBegin
 returns c =
@@ -76,4 +22,9 @@ returns c =
     (floats-held t (c .same-floats2 .ensures) (ap (λ (o : Coupled). o .out) e) refl)
 
 pub case4-transpose-spec : {M : Type 1} → statement M
-case4-transpose-spec = tie.close (tie.spec slice-aggregate-coupling-transpose-times slice-aggregate-coupling-transpose-times-2 slice-aggregate-coupling-transpose-times-3 slice-aggregate-coupling-transpose-times-4 slice-aggregate-coupling-transpose-times-5 slice-aggregate-coupling-transpose-times-6 slice-aggregate-coupling-transpose-times-7 slice-aggregate-coupling-transpose-times-8 slice-aggregate-coupling-transpose-times-9 coupling-transpose-times-requires answer-numbers-requires are-requires slice-aggregate-same-floats slice-aggregate-same-floats-2 same-floats-requires slice-aggregate-same-floats-3 slice-aggregate-same-floats-4 same-floats-requires-2 returns)
+case4-transpose-spec =
+    tie.close (tie.spec
+    (λ c. search needs) (λ c. search needs) (λ c. search needs) (λ c. search needs) (λ c. search needs) (λ c. search needs)
+    (λ c. search needs) (λ c. search needs) (λ c. search needs) (λ c κs. search needs) (λ c κs. search needs) (λ c κs. search needs)
+    (λ c. search needs) (λ c. search needs) (λ c κs. search needs) (λ c. search needs) (λ c. search needs) (λ c κs. search needs)
+    returns)

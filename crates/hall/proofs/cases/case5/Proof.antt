@@ -12,66 +12,6 @@ use borrow.Author.Needs.{needs}
 use Rattle.hall.proofs.cases.case5.Statement.{statement}
 use Rattle.hall.proofs.cases.case5.Tie as tie
 
-slice-aggregate-column-dot : tie.Need-slice-aggregate-column-dot
-slice-aggregate-column-dot c = search needs
-
-slice-aggregate-column-dot-2 : tie.Need-slice-aggregate-column-dot-2
-slice-aggregate-column-dot-2 c = search needs
-
-slice-aggregate-column-dot-3 : tie.Need-slice-aggregate-column-dot-3
-slice-aggregate-column-dot-3 c = search needs
-
-column-dot-requires : tie.Need-column-dot-requires
-column-dot-requires c κs = search needs
-
-slice-aggregate-column-dot-4 : tie.Need-slice-aggregate-column-dot-4
-slice-aggregate-column-dot-4 c = search needs
-
-slice-aggregate-column-dot-5 : tie.Need-slice-aggregate-column-dot-5
-slice-aggregate-column-dot-5 c = search needs
-
-slice-aggregate-column-dot-6 : tie.Need-slice-aggregate-column-dot-6
-slice-aggregate-column-dot-6 c = search needs
-
-column-dot-requires-2 : tie.Need-column-dot-requires-2
-column-dot-requires-2 c κs = search needs
-
-slice-aggregate-diag-jt-j : tie.Need-slice-aggregate-diag-jt-j
-slice-aggregate-diag-jt-j c = search needs
-
-slice-aggregate-diag-jt-j-2 : tie.Need-slice-aggregate-diag-jt-j-2
-slice-aggregate-diag-jt-j-2 c = search needs
-
-slice-aggregate-diag-jt-j-3 : tie.Need-slice-aggregate-diag-jt-j-3
-slice-aggregate-diag-jt-j-3 c = search needs
-
-slice-aggregate-diag-jt-j-4 : tie.Need-slice-aggregate-diag-jt-j-4
-slice-aggregate-diag-jt-j-4 c = search needs
-
-diag-jt-j-requires : tie.Need-diag-jt-j-requires
-diag-jt-j-requires c κs = search needs
-
-is-sum-requires : tie.Need-is-sum-requires
-is-sum-requires c κs = search needs
-
-is-sum-requires-2 : tie.Need-is-sum-requires-2
-is-sum-requires-2 c κs = search needs
-
-answer-numbers-requires : tie.Need-answer-numbers-requires
-answer-numbers-requires c κs = search needs
-
-are-requires : tie.Need-are-requires
-are-requires c κs = search needs
-
-slice-aggregate-same-floats : tie.Need-slice-aggregate-same-floats
-slice-aggregate-same-floats c = search needs
-
-slice-aggregate-same-floats-2 : tie.Need-slice-aggregate-same-floats-2
-slice-aggregate-same-floats-2 c = search needs
-
-same-floats-requires : tie.Need-same-floats-requires
-same-floats-requires c κs = search needs
-
 returns : tie.Need-returns
 unfolding ofInt ofBits eq div firstN first sameFloat floatsDiffer floatsBegin
 returns c =
@@ -88,4 +28,9 @@ returns c =
     (floats-held (f 30 ∷ f 2 ∷ f 5 ∷ []) (c .same-floats .ensures) (ap (λ (o : Left). o .out) e) refl)
 
 pub case5-spec : {M : Type 1} → statement M
-case5-spec = tie.close (tie.spec slice-aggregate-column-dot slice-aggregate-column-dot-2 slice-aggregate-column-dot-3 column-dot-requires slice-aggregate-column-dot-4 slice-aggregate-column-dot-5 slice-aggregate-column-dot-6 column-dot-requires-2 slice-aggregate-diag-jt-j slice-aggregate-diag-jt-j-2 slice-aggregate-diag-jt-j-3 slice-aggregate-diag-jt-j-4 diag-jt-j-requires is-sum-requires is-sum-requires-2 answer-numbers-requires are-requires slice-aggregate-same-floats slice-aggregate-same-floats-2 same-floats-requires returns)
+case5-spec =
+    tie.close (tie.spec
+    (λ c. search needs) (λ c. search needs) (λ c. search needs) (λ c κs. search needs) (λ c. search needs) (λ c. search needs)
+    (λ c. search needs) (λ c κs. search needs) (λ c. search needs) (λ c. search needs) (λ c. search needs) (λ c. search needs)
+    (λ c κs. search needs) (λ c κs. search needs) (λ c κs. search needs) (λ c κs. search needs) (λ c κs. search needs)
+    (λ c. search needs) (λ c. search needs) (λ c κs. search needs) returns)

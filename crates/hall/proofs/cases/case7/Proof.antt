@@ -11,42 +11,6 @@ use borrow.Author.Needs.{needs}
 use Rattle.hall.proofs.cases.case7.Statement.{statement}
 use Rattle.hall.proofs.cases.case7.Tie as tie
 
-slice-aggregate-sweep-kept : tie.Need-slice-aggregate-sweep-kept
-slice-aggregate-sweep-kept c = search needs
-
-sweep-kept-requires : tie.Need-sweep-kept-requires
-sweep-kept-requires c κs = search needs
-
-answer-numbers-requires : tie.Need-answer-numbers-requires
-answer-numbers-requires c κs = search needs
-
-are-requires : tie.Need-are-requires
-are-requires c κs = search needs
-
-slice-aggregate-same-floats : tie.Need-slice-aggregate-same-floats
-slice-aggregate-same-floats c = search needs
-
-same-floats-requires : tie.Need-same-floats-requires
-same-floats-requires c κs = search needs
-
-slice-aggregate-refused-at : tie.Need-slice-aggregate-refused-at
-slice-aggregate-refused-at c = search needs
-
-refused-at-requires : tie.Need-refused-at-requires
-refused-at-requires c κs = search needs
-
-slice-aggregate-refused-at-2 : tie.Need-slice-aggregate-refused-at-2
-slice-aggregate-refused-at-2 c = search needs
-
-refused-at-requires-2 : tie.Need-refused-at-requires-2
-refused-at-requires-2 c κs = search needs
-
-slice-aggregate-refused-at-3 : tie.Need-slice-aggregate-refused-at-3
-slice-aggregate-refused-at-3 c = search needs
-
-refused-at-requires-3 : tie.Need-refused-at-requires-3
-refused-at-requires-3 c κs = search needs
-
 returns : tie.Need-returns
 unfolding ofInt ofBits eq div firstN first sameFloat floatsDiffer floatsBegin
 returns c =
@@ -60,4 +24,8 @@ returns c =
     (c .refused-at3 .ensures ∙ ap (λ (o : Swept). tells (numbersOf (o .told)) 14 1 0 0) (hall-table .missing))
 
 pub case7-spec : {M : Type 1} → statement M
-case7-spec = tie.close (tie.spec slice-aggregate-sweep-kept sweep-kept-requires answer-numbers-requires are-requires slice-aggregate-same-floats same-floats-requires slice-aggregate-refused-at refused-at-requires slice-aggregate-refused-at-2 refused-at-requires-2 slice-aggregate-refused-at-3 refused-at-requires-3 returns)
+case7-spec =
+    tie.close (tie.spec
+    (λ c. search needs) (λ c κs. search needs) (λ c κs. search needs) (λ c κs. search needs) (λ c. search needs)
+    (λ c κs. search needs) (λ c. search needs) (λ c κs. search needs) (λ c. search needs) (λ c κs. search needs) (λ c. search needs)
+    (λ c κs. search needs) returns)

@@ -6,18 +6,11 @@ use borrow.Author.Needs.{needs}
 use Rattle.hall.proofs.cases.refused_at.Statement.{statement}
 use Rattle.hall.proofs.cases.refused_at.Tie as tie
 
-sweep-kept-requires : tie.Need-sweep-kept-requires
-sweep-kept-requires c κs = search needs
-
-answer-numbers-requires : tie.Need-answer-numbers-requires
-answer-numbers-requires c κs = search needs
-
-are-requires : tie.Need-are-requires
-are-requires c κs = search needs
-
 returns : tie.Need-returns
 returns c =
     numbers-told 14 1 (c .before .before .before .before .args .place) 0 (c .are .ensures) (c .before .answer-numbers .ensures) (ap (λ (o : Swept). o .told) (c .before .before .sweep-kept .ensures))
 
 pub refused-at-spec : {M : Type 1} → statement M
-refused-at-spec = tie.close (tie.spec sweep-kept-requires answer-numbers-requires are-requires returns)
+refused-at-spec =
+    tie.close (tie.spec
+    (λ c κs. search needs) (λ c κs. search needs) (λ c κs. search needs) returns)

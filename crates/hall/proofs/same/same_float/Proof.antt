@@ -1,3 +1,4 @@
+-- `hall::same::same_float` meets its contract. Assumes nothing.
 use mathlib.Core.Path.{refl}
 use Rattle.hall.specs.Same.{sameFloat}
 use Rattle.hall.proofs.same.same_float.Statement.{statement}
@@ -8,4 +9,6 @@ unfolding sameFloat
 returns c = refl
 
 pub same-float-spec : {M : Type 1} → statement M
-same-float-spec = tie.close (tie.spec returns)
+same-float-spec =
+    tie.close (tie.spec
+    returns)

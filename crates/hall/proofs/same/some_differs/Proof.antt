@@ -1,3 +1,4 @@
+-- `hall::same::some_differs` meets its contract. Assumes nothing.
 use Rattle.hall.specs.Same.{differs}
 use Rattle.ground.specs.First.{some}
 use lib.ListN.{length}
@@ -14,35 +15,9 @@ Inv-loop got expected i₀ i-end i =
 abbrev μ-loop : tie.MeasureT-loop
 μ-loop got expected i₀ i-end i = length expected - i
 
-loop-holds : tie.Need-loop-holds Inv-loop μ-loop
-loop-holds c = search comparing
-
-mul-if1 : tie.Need-mul-if1 Inv-loop μ-loop
-mul-if1 c = search comparing
-
-shared-slice-read-if1 : tie.Need-shared-slice-read-if1 Inv-loop μ-loop
-shared-slice-read-if1 c = search comparing
-
-mul-if1-2 : tie.Need-mul-if1-2 Inv-loop μ-loop
-mul-if1-2 c = search comparing
-
-shared-slice-read-if1-2 : tie.Need-shared-slice-read-if1-2 Inv-loop μ-loop
-shared-slice-read-if1-2 c = search comparing
-
-returns : tie.Need-returns Inv-loop μ-loop
-returns c = search comparing
-
-add-i : tie.Need-add-i Inv-loop μ-loop
-add-i c = search comparing
-
-loop-less : tie.Need-loop-less Inv-loop μ-loop
-loop-less c = search comparing
-
-loop-again : tie.Need-loop-again Inv-loop μ-loop
-loop-again c = search comparing
-
-returns-2 : tie.Need-returns-2 Inv-loop μ-loop
-returns-2 c = search comparing
-
 pub some-differs-spec : {M : Type 1} → statement M
-some-differs-spec = tie.close (tie.spec Inv-loop μ-loop loop-holds mul-if1 shared-slice-read-if1 mul-if1-2 shared-slice-read-if1-2 returns add-i loop-less loop-again returns-2)
+some-differs-spec =
+    tie.close (tie.spec
+    Inv-loop μ-loop (λ c. search comparing) (λ c. search comparing) (λ c. search comparing) (λ c. search comparing)
+    (λ c. search comparing) (λ c. search comparing) (λ c. search comparing) (λ c. search comparing) (λ c. search comparing)
+    (λ c. search comparing))
