@@ -99,7 +99,10 @@ unusedProgress = replicate 3 7
 
 abbrev pub unusedBuffers : Buffers
 unusedBuffers =
-    buffers unusedMap (replicate 3 7) (replicate 3 7) (replicate 3 7) (replicate 5 7) (replicate 5 7) (replicate 3 7) (replicate 8 7) (replicate 2 7) (replicate 4 7) (replicate 8 7) (replicate 8 7) (replicate 8 7) (replicate 4 7) (replicate 8 7) (replicate 8 7) (replicate 8 7)
+    buffers unusedMap (replicate 3 7) (replicate 3 7) (replicate 3 7) (replicate 5 7)
+    (replicate 5 7) (replicate 3 7) (replicate 8 7) (replicate 2 7)
+    (replicate 4 7) (replicate 8 7) (replicate 8 7) (replicate 8 7)
+    (replicate 4 7) (replicate 8 7) (replicate 8 7) (replicate 8 7)
 
 abbrev pub unusedWork : Work
 unusedWork = record { rows = unusedRows; t = replicate 2 (f 7); u = replicate 2 (f 7); out = replicate 1 (f 7) }

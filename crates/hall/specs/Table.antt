@@ -9,7 +9,7 @@ use Rattle.columns.specs.Refusals.{tell, done}
 use Rattle.columns.specs.Columns.{checked}
 use Rattle.columns.specs.JacobianOps.{columnDot, diagJtJ}
 use Rattle.blocks.specs.Claims.{mark}
-use Rattle.plan.specs.Plan.{buffers, planned}
+use Rattle.plan.specs.Plan.{buffers, lent, planned}
 use Rattle.products.specs.Operator.{keptRows, schurOperator}
 use Rattle.products.specs.Couplings.{coupling}
 use Rattle.hall.specs.Hall.{f, half, hall, moved, repeated, kept, elims, owners, rowLists, visible, keptLists, elimsLists, v, firstRows, t, u, lastRows, operands, unusedMap, unusedRows, unusedBuffers, unusedWork, sweptAlong}
@@ -50,11 +50,11 @@ pub record HallTable : Type 0 where
   pub dot-0-1 : columnDot hall 0 1 ≡ record { told = done; sums = f 3 ∷ [] }
   pub dot-0-2 : columnDot hall 0 2 ≡ record { told = done; sums = f 10 ∷ [] }
   pub diagonal : diagJtJ hall (replicate 3 (f 7)) ≡ record { told = done; out = f 30 ∷ f 2 ∷ f 5 ∷ [] }
-  -- 6: column 2 moved, refusal 10, blocks 1 and 0; map and owners hold the mark
+  -- 6: column 2 moved: refusal 10, blocks 1 and 0; map and owners hold the mark, the other buffers what they held
   pub connected : planned moved kept elims 2 unusedBuffers
       ≡ record {
         told = tell 10 (1 ∷ 0 ∷ []);
-        left = buffers marked (replicate 3 7) (replicate 3 7) (replicate 3 7) (mark ∷ mark ∷ mark ∷ mark ∷ mark ∷ []) (replicate 5 7) (replicate 3 7) (replicate 8 7) (replicate 2 7) (replicate 4 7) (replicate 8 7) (replicate 8 7) (replicate 8 7) (replicate 4 7) (replicate 8 7) (replicate 8 7) (replicate 8 7);
+        left = lent marked (mark ∷ mark ∷ mark ∷ mark ∷ mark ∷ []) unusedBuffers;
       }
   -- 7: the kept sweep along 2, 0, 1; and along 0, 0, 1, along 0, 1 and along 3, refused
   pub swept : sweptAlong (2 ∷ 0 ∷ 1 ∷ [])
