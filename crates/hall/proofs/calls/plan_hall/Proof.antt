@@ -1,0 +1,17 @@
+-- `hall::calls::plan_hall` meets its contract. Assumes nothing.
+use lib.Ieee.{ofInt, ofBits}
+use borrow.Author.Needs.{needs}
+use Rattle.hall.proofs.calls.plan_hall.Statement.{statement}
+use Rattle.hall.proofs.calls.plan_hall.Tie as tie
+
+returns : tie.Need-returns
+unfolding ofInt ofBits
+returns c = c .before .before .before .before .before .before .before .before .before .before .before .before .before .before .before .before .before .plan .ensures
+
+pub plan-hall-spec : {M : Type 1} → statement M
+plan-hall-spec =
+    tie.close (tie.spec
+    (λ c. search needs) (λ c. search needs) (λ c. search needs) (λ c. search needs) (λ c. search needs) (λ c. search needs)
+    (λ c. search needs) (λ c. search needs) (λ c. search needs) (λ c. search needs) (λ c. search needs) (λ c. search needs)
+    (λ c. search needs) (λ c. search needs) (λ c. search needs) (λ c. search needs) (λ c. search needs) (λ c. search needs)
+    (λ c. search needs) (λ c. search needs) (λ c. search needs) (λ c κs. search needs) returns)

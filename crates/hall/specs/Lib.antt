@@ -1,0 +1,4 @@
+pub mod Hall
+pub mod Same
+pub mod Calls
+pub mod Table
