@@ -3,6 +3,7 @@ pub mod RefusalLaws
 pub mod CheckLaws
 pub mod SumLaws
 pub mod CallLaws
+mod ReaderLaws
 mod CheckRules
 mod MergeLaws
 mod Rules

@@ -3,4 +3,5 @@ pub mod Lengths
 pub mod Columns
 pub mod Sums
 pub mod Unchecked
+pub mod Reader
 pub mod JacobianOps

@@ -1,4 +1,5 @@
 // The check that columns keep the rules: refusals 1, 2 and 3.
+use crate::reader::row_in;
 use crate::refusal::Answer;
 use crate::refusal::Refusal;
 use crate::unchecked::end_place;
@@ -92,7 +93,7 @@ fn bad_place(nrows: usize, rows: &[u32], from: usize, to: usize) -> usize
 {
     let mut least: usize = 0;
     for p in from..to {
-        let row = wide(rows[p]);
+        let row = row_in(rows, p);
         if row_bad(nrows, row, least) {
             return p;
         }

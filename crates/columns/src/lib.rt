@@ -2,5 +2,6 @@
 // jacobian_ops.rs has. This is the lowest layer that knows what a matrix is.
 pub mod check;
 pub mod jacobian_ops;
+mod reader;
 pub mod refusal;
 pub mod unchecked;

@@ -17,6 +17,5 @@ abbrev μ-loop : tie.MeasureT-loop
 pub bad-place-spec : {M : Type 1} → statement M
 bad-place-spec =
     tie.close (tie.spec
-    Inv-loop μ-loop (λ c. search checking) (λ c. search checking) (λ c. search checking) (λ c κs. search checking)
-    (λ c κs. search checking) (λ c. search checking) (λ c. search checking) (λ c. search checking) (λ c. search checking)
-    (λ c. search checking) (λ c. search checking))
+    Inv-loop μ-loop (λ c. search checking) (λ c κs. search checking) (λ c κs. search checking) (λ c. search checking)
+    (λ c. search checking) (λ c. search checking) (λ c. search checking) (λ c. search checking) (λ c. search checking))
