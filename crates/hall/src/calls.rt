@@ -52,7 +52,7 @@ pub struct HallPlan {
 }
 
 // Plans the hall with these row numbers, in chunks of two rows.
-pub fn plan_hall(rows: &[u32]) -> HallPlan
+pub(crate) fn plan_hall(rows: &[u32]) -> HallPlan
     ensures { λ r. ⌜ planOutcome r ≡ planned (columnsWith (now (rows .entry))) kept elims 2 unusedBuffers ⌝ }
 {
     let mut map = [UNUSED; 3];
@@ -131,7 +131,7 @@ pub struct HallWork {
 }
 
 // The operator on v, over the plan of case 2, with this damping.
-pub fn operate(d: &[f64]) -> HallWork
+pub(crate) fn operate(d: &[f64]) -> HallWork
     ensures { λ r. ⌜ operatorOutcome r ≡ schurOperator hall kept elims 2 unusedMap (operands (now (d .entry))) unusedWork ⌝ }
 {
     let mut map = [UNUSED; 3];
@@ -183,7 +183,7 @@ pub struct HallSweep {
 }
 
 // The kept sweep of v, over the plan of case 2, along this order.
-pub fn sweep_kept(order: &[u32]) -> HallSweep
+pub(crate) fn sweep_kept(order: &[u32]) -> HallSweep
     ensures { λ r. ⌜ sweepOutcome r ≡ sweptAlong (now (order .entry)) ⌝ }
 {
     let mut map = [UNUSED; 3];

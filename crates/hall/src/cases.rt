@@ -57,7 +57,7 @@ ghost use Rattle.hall.specs.Hall.{sweptAlong};
 ghost use Rattle.hall.specs.Same.{numbersOf, tells};
 
 // Owners, row lists and the visible list.
-pub fn case1() -> bool
+pub(crate) fn case1() -> bool
     ensures { λ r. ⌜ r ≡ true ⌝ }
 {
     let p = plan_hall(&ROWS);
@@ -69,7 +69,7 @@ pub fn case1() -> bool
 }
 
 // Both sides' spans in chunks of two rows: three each.
-pub fn case2() -> bool
+pub(crate) fn case2() -> bool
     ensures { λ r. ⌜ r ≡ true ⌝ }
 {
     let p = plan_hall(&ROWS);
@@ -86,7 +86,7 @@ pub fn case2() -> bool
 }
 
 // The operator, without damping and with.
-pub fn case3() -> bool
+pub(crate) fn case3() -> bool
     ensures { λ r. ⌜ r ≡ true ⌝ }
 {
     let w = operate(&[]);
@@ -147,14 +147,14 @@ fn case4_transpose() -> bool
 }
 
 // Both coupling products.
-pub fn case4() -> bool
+pub(crate) fn case4() -> bool
     ensures { λ r. ⌜ r ≡ true ⌝ }
 {
     case4_times() & case4_transpose()
 }
 
 // Two dots of columns, and the diagonal.
-pub fn case5() -> bool
+pub(crate) fn case5() -> bool
     ensures { λ r. ⌜ r ≡ true ⌝ }
 {
     let one = column_dot(NROWS, &PTRS, &ROWS, &VALUES, 0, 1);
@@ -168,7 +168,7 @@ pub fn case5() -> bool
 }
 
 // Column 2 moved: eliminated block 1 finds a row that block 0 holds.
-pub fn case6() -> bool
+pub(crate) fn case6() -> bool
     ensures { λ r. ⌜ r ≡ true ⌝ }
 {
     let p = plan_hall(&MOVED);
@@ -186,7 +186,7 @@ fn refused_at(order: &[u32], place: usize) -> bool
 }
 
 // The kept sweep along four orders: the first does every span, the others are refused at a place.
-pub fn case7() -> bool
+pub(crate) fn case7() -> bool
     ensures { λ r. ⌜ r ≡ true ⌝ }
 {
     let s = sweep_kept(&ORDER);
@@ -199,7 +199,7 @@ pub fn case7() -> bool
 }
 
 // A row twice in column 0: its entry 2.
-pub fn case8() -> bool
+pub(crate) fn case8() -> bool
     ensures { λ r. ⌜ r ≡ true ⌝ }
 {
     answer_numbers(check_columns(NROWS, &PTRS, &REPEATED, &VALUES)).are(3, 2, 0, 2)

@@ -13,7 +13,7 @@ ghost use Rattle.plan.specs.Plan.{toldPlan};
 ghost use Rattle.hall.specs.Same.{sameFloat, differs, floatsDiffer, begins, floatsBegin, numbersOf, tells, isSum};
 
 // Whether two floats are the same, no NaN. Of floats that are equal only the two zeros have different inverses.
-pub fn same_float(a: f64, b: f64) -> bool
+pub(crate) fn same_float(a: f64, b: f64) -> bool
     ensures { λ r. ⌜ r ≡ sameFloat a b ⌝ }
 {
     (a == b) & (1.0 / a == 1.0 / b)
@@ -33,7 +33,7 @@ fn some_differs(got: &[u32], expected: &[u32]) -> bool
 }
 
 // Whether a list begins with the expected one.
-pub fn same(got: &[u32], expected: &[u32]) -> bool
+pub(crate) fn same(got: &[u32], expected: &[u32]) -> bool
     ensures { λ r. ⌜ r ≡ begins (now (got .entry)) (now (expected .entry)) ⌝ }
 {
     if got.len() < expected.len() {
@@ -56,7 +56,7 @@ fn some_float_differs(got: &[f64], expected: &[f64]) -> bool
 }
 
 // Whether a list of floats begins with the expected one.
-pub fn same_floats(got: &[f64], expected: &[f64]) -> bool
+pub(crate) fn same_floats(got: &[f64], expected: &[f64]) -> bool
     ensures { λ r. ⌜ r ≡ floatsBegin (now (got .entry)) (now (expected .entry)) ⌝ }
 {
     if got.len() < expected.len() {
@@ -75,7 +75,7 @@ pub struct Numbers {
 
 impl Numbers {
     // Whether they are these.
-    pub fn are(self, number: u32, count: usize, first: usize, second: usize) -> bool
+    pub(crate) fn are(self, number: u32, count: usize, first: usize, second: usize) -> bool
         ensures { λ r. ⌜ r ≡ tells self number count first second ⌝ }
     {
         (self.number == number)
@@ -99,7 +99,7 @@ fn refusal_numbers(refusal: Refusal) -> Numbers
 }
 
 // Those of an answer without values of its own.
-pub fn answer_numbers(answer: Answer) -> Numbers
+pub(crate) fn answer_numbers(answer: Answer) -> Numbers
     ensures { λ r. ⌜ r ≡ numbersOf (told answer) ⌝ }
 {
     match answer {
@@ -114,7 +114,7 @@ pub fn answer_numbers(answer: Answer) -> Numbers
 }
 
 // Those of planning, which answers 0 with the span counts.
-pub fn plan_numbers(answer: Planned) -> Numbers
+pub(crate) fn plan_numbers(answer: Planned) -> Numbers
     ensures { λ r. ⌜ r ≡ numbersOf (toldPlan answer) ⌝ }
 {
     match answer {
@@ -132,7 +132,7 @@ pub fn plan_numbers(answer: Planned) -> Numbers
 }
 
 // Whether `column_dot` answered this sum.
-pub fn is_sum(dot: Dot, sum: f64) -> bool
+pub(crate) fn is_sum(dot: Dot, sum: f64) -> bool
     ensures { λ r. ⌜ r ≡ isSum (dotted dot .sums) sum ⌝ }
 {
     match dot {
