@@ -80,18 +80,33 @@ pub fn write_count(name: &[u8], count: u64) {
     io::print_decimal(1, count);
 }
 
-// Writes how many cases of each kind were compared.
-pub fn write_counts(counts: &[u64; COUNTS]) {
+// Writes how many cases over the original's plans were compared, by their kinds.
+fn write_planned(counts: &[u64; COUNTS]) {
     write_count(b"operator ", counts[1]);
     write_count(b", damped ", counts[2]);
     write_count(b", kept sweep ", counts[3]);
     write_count(b", eliminated sweep ", counts[4]);
+}
+
+// Over plans from elsewhere.
+fn write_foreign(counts: &[u64; COUNTS]) {
     write_count(b", over foreign plans: operator ", counts[9]);
     write_count(b", damped ", counts[10]);
     write_count(b", kept sweep ", counts[11]);
     write_count(b", eliminated sweep ", counts[12]);
+}
+
+// Without a plan.
+fn write_unplanned(counts: &[u64; COUNTS]) {
     write_count(b", without a plan: inverse ", counts[5]);
     write_count(b", coupling ", counts[6]);
     write_count(b", transpose ", counts[7]);
     write_count(b", update ", counts[8]);
+}
+
+// Writes how many cases of each kind were compared.
+pub fn write_counts(counts: &[u64; COUNTS]) {
+    write_planned(counts);
+    write_foreign(counts);
+    write_unplanned(counts);
 }

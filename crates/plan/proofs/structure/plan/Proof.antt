@@ -1,7 +1,7 @@
 -- `structure::plan` meets its contract. Assumes nothing.
 use mathlib.Core.Bool.{true, false}
 use mathlib.Core.List.{List}
-use mathlib.Core.Path.{refl}
+use mathlib.Core.Path.{refl, _∙_}
 use Prim.Native.Nat.{ℕ}
 use native.Mathlib.Omega.{arith}
 use borrow.Author.Needs.{needs}
@@ -121,6 +121,11 @@ walk-blocks-requires c κs =
     let room = room-fact (b3 .no-room .result) m kept elims len b _ _ (b6 .column-count .ensures) (b5 .chunk-count .ensures) (b3 .no-room .ensures) (b1 .enum-told2 .given .1) in
     rw (b6 .column-count .ensures) (map-room m kept elims len parts b room)
 
+same-length : tie.Need-same-length
+same-length c =
+    let b5 = c .before .before .before .before .before in
+    b5 .walk-blocks .kept .1 .1 .1 .0
+
 returns-3 : tie.Need-returns-3
 returns-3 c =
     let b1 = c .before in
@@ -164,6 +169,17 @@ row-owners-requires c κs =
     let walk = walk-fact (b5 .walk-blocks .result) kept elims _ _ _ _ (b12 .column-count .ensures) (b5 .walk-blocks .ensures) (b1 .enum-told3 .given .1) in
     let ready = plan-ready m kept elims len parts b room _ walk in
     plan-owners _ _ _ _ b ready
+
+same-length-2 : tie.Need-same-length-2
+same-length-2 c =
+    let b2 = c .before .before in
+    let b15 = b2 .before .before .before .before .before .before .before .before .before .before .before .before .before in
+    b2 .mark-map .kept .0 ∙ b15 .walk-blocks .kept .1 .1 .1 .0
+
+same-length-3 : tie.Need-same-length-3
+same-length-3 c =
+    let b9 = c .before .before .before .before .before .before .before .before .before in
+    b9 .row-owners .kept .1 .1 .1 .1 .0
 
 returns-4 : tie.Need-returns-4
 returns-4 c =
@@ -396,6 +412,56 @@ same-length-10 c =
     let b40 = c .before .before .before .before .before .before .before .before .before .before .before .before .before .before .before .before .before .before .before .before .before .before .before .before .before .before .before .before .before .before .before .before .before .before .before .before .before .before .before .before in
     b40 .row-lists .kept .1 .1 .1 .1 .0
 
+same-length-11 : tie.Need-same-length-11
+same-length-11 c =
+    let b32 = c .before .before .before .before .before .before .before .before .before .before .before .before .before .before .before .before .before .before .before .before .before .before .before .before .before .before .before .before .before .before .before .before in
+    b32 .visible-lists .kept .1 .1 .1 .1 .0
+
+same-length-12 : tie.Need-same-length-12
+same-length-12 c =
+    let b32 = c .before .before .before .before .before .before .before .before .before .before .before .before .before .before .before .before .before .before .before .before .before .before .before .before .before .before .before .before .before .before .before .before in
+    b32 .visible-lists .kept .1 .1 .1 .1 .1 .0
+
+same-length-13 : tie.Need-same-length-13
+same-length-13 c =
+    let b22 = c .before .before .before .before .before .before .before .before .before .before .before .before .before .before .before .before .before .before .before .before .before .before in
+    b22 .spans .kept .1 .1 .1 .1 .1 .1 .0
+
+same-length-14 : tie.Need-same-length-14
+same-length-14 c =
+    let b22 = c .before .before .before .before .before .before .before .before .before .before .before .before .before .before .before .before .before .before .before .before .before .before in
+    b22 .spans .kept .1 .1 .1 .1 .1 .1 .1 .0
+
+same-length-15 : tie.Need-same-length-15
+same-length-15 c =
+    let b22 = c .before .before .before .before .before .before .before .before .before .before .before .before .before .before .before .before .before .before .before .before .before .before in
+    b22 .spans .kept .1 .1 .1 .1 .1 .1 .1 .1 .0
+
+same-length-16 : tie.Need-same-length-16
+same-length-16 c =
+    let b22 = c .before .before .before .before .before .before .before .before .before .before .before .before .before .before .before .before .before .before .before .before .before .before in
+    b22 .spans .kept .1 .1 .1 .1 .1 .1 .1 .1 .1 .0
+
+same-length-17 : tie.Need-same-length-17
+same-length-17 c =
+    let b8 = c .before .before .before .before .before .before .before .before in
+    b8 .spans2 .kept .1 .1 .1 .1 .1 .1 .0
+
+same-length-18 : tie.Need-same-length-18
+same-length-18 c =
+    let b8 = c .before .before .before .before .before .before .before .before in
+    b8 .spans2 .kept .1 .1 .1 .1 .1 .1 .1 .0
+
+same-length-19 : tie.Need-same-length-19
+same-length-19 c =
+    let b8 = c .before .before .before .before .before .before .before .before in
+    b8 .spans2 .kept .1 .1 .1 .1 .1 .1 .1 .1 .0
+
+same-length-20 : tie.Need-same-length-20
+same-length-20 c =
+    let b8 = c .before .before .before .before .before .before .before .before in
+    b8 .spans2 .kept .1 .1 .1 .1 .1 .1 .1 .1 .1 .0
+
 returns-5 : tie.Need-returns-5
 returns-5 c =
     let b8 = c .before .before .before .before .before .before .before .before in
@@ -435,9 +501,9 @@ plan-spec =
     tie.close (tie.spec
     (λ c κs. search needs) (λ c κs. search needs) (λ c. search needs) returns (λ c. search needs) (λ c κs. search needs)
     chunk-count-requires add-t48 add-t53 add-t55 add-t60 (λ c. search needs) (λ c κs. search needs) (λ c. search needs) returns-2
-    (λ c. search needs) walk-blocks-requires (λ c. search needs) (λ c. search needs) returns-3 (λ c. search needs) row-owners-requires
-    (λ c. search needs) (λ c κs. search needs) (λ c. search needs) (λ c. search needs) returns-4 (λ c. search needs)
+    (λ c. search needs) walk-blocks-requires (λ c. search needs) same-length returns-3 (λ c. search needs) row-owners-requires
+    (λ c. search needs) (λ c κs. search needs) same-length-2 same-length-3 returns-4 (λ c. search needs)
     list-columns-requires list-columns-requires-2 list-blocks-requires row-lists-requires visible-lists-requires spans-requires
     spans-requires-2 same-length-4 same-length-5 same-length-6 same-length-7 same-length-8 same-length-9 same-length-10
-    (λ c. search needs) (λ c. search needs) (λ c. search needs) (λ c. search needs) (λ c. search needs) (λ c. search needs)
-    (λ c. search needs) (λ c. search needs) (λ c. search needs) (λ c. search needs) returns-5)
+    same-length-11 same-length-12 same-length-13 same-length-14 same-length-15
+    same-length-16 same-length-17 same-length-18 same-length-19 same-length-20 returns-5)
