@@ -1,4 +1,4 @@
--- Public steps, one after the other along a work order. proofs/StepLaws.antt shows that an accepted sweep is its steps. Assumes nothing.
+-- Public steps, one after the other along a work order. StepLaws of product_laws shows that an accepted sweep is its steps. Assumes nothing.
 use mathlib.Core.Path.{_≡_}
 use mathlib.Core.Bool.{Bool}
 use mathlib.Core.List.{List}

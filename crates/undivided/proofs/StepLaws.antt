@@ -1,5 +1,5 @@
 -- With the plan of a side, an accepted sweep and its steps in list order both leave the rows of the undivided sweep. That an accepted sweep is its
--- steps is shown in products' StepLaws. Assumes nothing.
+-- steps is shown in StepLaws of product_laws. Assumes nothing.
 use mathlib.Core.Path.{_≡_, refl, ap, _∙_}
 use mathlib.Core.Bool.{Bool, true, false}
 use mathlib.Core.List.{List}
