@@ -20,12 +20,27 @@ impl Lists {
     fn room(p: &Problem, l: usize) -> Lists {
         let (columns, entries, chunks) = (p.ptrs.len() - 1, p.rows.len(), p.nrows.div_ceil(l));
         let side = [chunks + 1, entries, entries, entries];
-        let plain = [columns, columns, columns, columns, p.nrows, p.nrows, p.elim.blocks + 1, entries, p.kept.blocks + 1];
+        let plain = [
+            columns,
+            columns,
+            columns,
+            columns,
+            p.nrows,
+            p.nrows,
+            p.elim.blocks + 1,
+            entries,
+            p.kept.blocks + 1,
+        ];
         Lists(plain.iter().chain(&side).chain(&side).map(|&n| vec![0; n]).collect())
     }
     fn plan(&mut self, p: &Problem, l: usize) -> raw::Told {
         let mut lists = self.0.iter_mut().map(|list| &mut list[..]);
-        let told = raw::plan(columns(p), sides(p), l, std::array::from_fn(|_| lists.next().expect("seventeen lists")));
+        let told = raw::plan(
+            columns(p),
+            sides(p),
+            l,
+            std::array::from_fn(|_| lists.next().expect("seventeen lists")),
+        );
         if told.number != 0 {
             eprintln!("refused: {told:?}");
             exit(1);
@@ -35,16 +50,29 @@ impl Lists {
     /// A side's spans, cut to their used part.
     fn spans(&self, first: usize, count: u64) -> Spans<'_> {
         let cut = |k: usize| &self.0[first + k][..count as usize];
-        Spans { starts: &self.0[first], lo: cut(1), hi: cut(2), local: cut(3) }
+        Spans {
+            starts: &self.0[first],
+            lo: cut(1),
+            hi: cut(2),
+            local: cut(3),
+        }
     }
 }
 
 fn columns(p: &Problem) -> Columns<'_> {
-    Columns { nrows: p.nrows, ptrs: &p.ptrs, rows: &p.rows, values: &p.values }
+    Columns {
+        nrows: p.nrows,
+        ptrs: &p.ptrs,
+        rows: &p.rows,
+        values: &p.values,
+    }
 }
 
 fn sides(p: &Problem) -> Sides<'_> {
-    Sides { kept: &p.kept_pairs, eliminated: &p.elim_pairs }
+    Sides {
+        kept: &p.kept_pairs,
+        eliminated: &p.elim_pairs,
+    }
 }
 
 /// Calls `each` with one call of WHAT, as often as it asks. Ends with the lists, the span counts and the operator's result.
@@ -64,7 +92,19 @@ fn with_call(p: &Problem, what: &str, l: usize, each: &mut dyn FnMut(&mut dyn Fn
     let (kept, elim) = (lists.spans(9, told.first), lists.spans(13, told.second));
     each(&mut || {
         let told = raw::operator(
-            columns(p), sides(p), &mut map, l, black_box(&p.v), &p.inverses, &p.d, kept, elim, &mut y, &mut t, &mut u, &mut out,
+            columns(p),
+            sides(p),
+            &mut map,
+            l,
+            black_box(&p.v),
+            &p.inverses,
+            &p.d,
+            kept,
+            elim,
+            &mut y,
+            &mut t,
+            &mut u,
+            &mut out,
         );
         if told.number != 0 {
             eprintln!("refused: {told:?}");
@@ -77,7 +117,9 @@ fn with_call(p: &Problem, what: &str, l: usize, each: &mut dyn FnMut(&mut dyn Fn
 
 fn check(p: &Problem, l: usize) {
     let (lists, told, out) = with_call(p, "operator", l, &mut |call| call());
-    let hash = out.iter().fold(0u64, |h, x| (h.rotate_left(5) ^ x.to_bits()).wrapping_mul(0x100000001b3));
+    let hash = out
+        .iter()
+        .fold(0u64, |h, x| (h.rotate_left(5) ^ x.to_bits()).wrapping_mul(0x100000001b3));
     println!(
         "rows {} cols {} entries {} chunk {l} kept spans {} eliminated spans {} visible pairs {} hash of out {hash:016x}",
         p.nrows,
@@ -110,7 +152,9 @@ fn usage() -> ! {
 fn main() {
     let args: Vec<String> = std::env::args().skip(1).collect();
     let number = |k: usize| args.get(k).and_then(|s| s.parse::<usize>().ok()).unwrap_or_else(|| usage());
-    let Some(p) = args.get(1).and_then(|name| named(name)) else { usage() };
+    let Some(p) = args.get(1).and_then(|name| named(name)) else {
+        usage()
+    };
     let chunk = |l: usize| if l == 0 { own_chunk(p.nrows) } else { l };
     let what = args.get(2).map(String::as_str);
     match (args[0].as_str(), what) {

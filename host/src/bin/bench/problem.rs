@@ -13,7 +13,9 @@ impl Side {
     }
     /// Pairs of first column and dof; the side's columns begin at `first`.
     fn pairs(&self, first: usize) -> Vec<u32> {
-        (0..self.blocks).flat_map(|b| [(first + b * self.dof) as u32, self.dof as u32]).collect()
+        (0..self.blocks)
+            .flat_map(|b| [(first + b * self.dof) as u32, self.dof as u32])
+            .collect()
     }
 }
 
@@ -68,7 +70,11 @@ fn build(kept: Side, elim: Side, entries: usize) -> Problem {
         for row in 0..nrows {
             let (k, e) = seen[row / 2];
             for c in 0..row_entries.min(left) {
-                let col = if c < kept.dof { k * kept.dof + c } else { kept.columns() + e * elim.dof + c - kept.dof };
+                let col = if c < kept.dof {
+                    k * kept.dof + c
+                } else {
+                    kept.columns() + e * elim.dof + c - kept.dof
+                };
                 f(row, col);
             }
             left -= row_entries.min(left);
