@@ -85,19 +85,22 @@ fn changed(line: &str) -> Option<String> {
 fn every_list_of_the_original_counts() {
     let text = include_str!("original/cases.txt");
     assert_eq!(differences(text), 0);
-    let lines: Vec<&str> = text.lines().collect();
     let mut compared = BTreeSet::new();
-    for (i, line) in lines.iter().enumerate() {
-        let name = line.split(' ').next().unwrap();
-        if !name.starts_with("out.") || NOT_COMPARED.contains(&name) {
-            continue;
-        }
-        if let Some(other) = changed(line) {
-            let mut lines = lines.clone();
-            lines[i] = &other;
-            assert!(differences(&lines.join("\n")) > 0, "line {}: {name} is not compared", i + 1);
-            compared.insert(name);
+    for case in text.split_inclusive("\nend\n") {
+        let lines: Vec<&str> = case.lines().collect();
+        for (i, line) in lines.iter().enumerate() {
+            let name = line.split(' ').next().unwrap();
+            if !name.starts_with("out.") || NOT_COMPARED.contains(&name) {
+                continue;
+            }
+            if let Some(other) = changed(line) {
+                let mut lines = lines.clone();
+                lines[i] = &other;
+                assert!(differences(&lines.join("\n")) > 0, "{name} is not compared: {line}");
+                compared.insert(name);
+            }
         }
     }
+    // every answer of oracle/FORMAT.md but those
     assert_eq!(compared.len(), 57, "{compared:?}");
 }

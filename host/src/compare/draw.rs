@@ -9,7 +9,7 @@ use crate::input::{Damping, Side};
 pub fn good_call(r: &mut Random, size: Size) -> Call {
     let which = r.below(32);
     // a plan is where shared rows are refused
-    let shared = if (19..=22).contains(&which) { 45 } else { 15 };
+    let shared = if (19..=22).contains(&which) { 70 } else { 15 };
     let p = Problem::draw(r, size, shared);
     let (rows, count, special) = (p.columns.nrows as usize, p.count(), p.special);
     let (kept, elim) = (Problem::dof(&p.sides.kept), Problem::dof(&p.sides.eliminated));
@@ -179,7 +179,9 @@ const AIMS: [&[&str]; 15] = [
 ];
 
 // How often damage aims at each number; 0 is no aim.
-const WEIGHTS: [usize; 22] = [0, 0, 1, 2, 3, 4, 5, 5, 6, 7, 8, 9, 10, 11, 11, 11, 12, 13, 13, 13, 14, 14];
+const WEIGHTS: [usize; 25] = [
+    0, 0, 1, 2, 3, 4, 5, 5, 6, 7, 8, 9, 10, 11, 11, 11, 12, 13, 13, 13, 14, 14, 14, 14, 14,
+];
 
 /// Damages one thing of the call: aimed at some refusal, or anything.
 pub fn damage(r: &mut Random, call: &mut Call) {

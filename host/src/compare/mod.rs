@@ -32,6 +32,8 @@ pub struct Tally {
     pub differences: u64,
     /// How often each answer number came from the port.
     pub numbers: [u64; 15],
+    /// The same, call by call.
+    pub calls_numbers: BTreeMap<&'static str, [u64; 15]>,
     /// What was left out, and how often.
     pub left_out: BTreeMap<&'static str, u64>,
     /// The first differences, as case files.
@@ -49,6 +51,7 @@ impl Default for Tally {
             original_lists: 0,
             differences: 0,
             numbers: [0; 15],
+            calls_numbers: BTreeMap::new(),
             left_out: BTreeMap::new(),
             shown: Vec::new(),
             started: Instant::now(),
@@ -110,6 +113,7 @@ impl Tally {
         match &got {
             Ok(answer) => {
                 self.numbers[answer.number as usize] += 1;
+                self.calls_numbers.entry(call.name()).or_default()[answer.number as usize] += 1;
                 if !same_answer(answer, &wanted) {
                     faults.push(("answer", "it differs"));
                 }
@@ -180,9 +184,11 @@ impl Tally {
         if self.original_lists > 0 {
             let _ = writeln!(text, "  compared with the original: {} lists", self.original_lists);
         }
-        let _ = writeln!(text, "  answers by number:");
-        for (number, count) in self.numbers.iter().enumerate() {
-            let _ = writeln!(text, "  {number:4} {count:10}");
+        let line = |name: &str, counts: &[u64; 15]| format!("  {name:25}{}\n", counts.map(|count| format!(" {count:>7}")).concat());
+        text += &line("answers by number", &std::array::from_fn(|number| number as u64));
+        text += &line("all", &self.numbers);
+        for (name, counts) in &self.calls_numbers {
+            text += &line(name, counts);
         }
         for (why, count) in &self.left_out {
             let _ = writeln!(text, "  left out, {count} times: {why}");
@@ -196,7 +202,7 @@ impl Tally {
 pub enum Kind {
     /// Rows to 40, columns 1 to 12, none to three things damaged.
     Damaged,
-    /// Rows to 6, columns 0 to 4, none to six things damaged.
+    /// Rows to 6, columns 0 to 4, none to twenty things damaged.
     Fuzz,
 }
 
@@ -218,7 +224,7 @@ pub fn damaged_case(kind: Kind, seed: u64, number: u64) -> Call {
                 least_columns: 0,
                 columns: 4,
             },
-            &[0, 1, 1, 1, 2, 2, 3, 6],
+            &[0, 1, 1, 1, 2, 2, 3, 6, 20],
         ),
     };
     // one in 2,000 of the larger ones stands at a limit
@@ -238,7 +244,7 @@ pub fn damaged(kind: Kind, model: &Model, seed: u64, count: u64) -> Tally {
     for number in 0..count {
         tally.compare(model, damaged_case(kind, seed, number));
         tally.cases += 1;
-        tally.progress("damaged", count);
+        tally.progress(if kind == Kind::Fuzz { "fuzz" } else { "damaged" }, count);
     }
     tally
 }
