@@ -1,6 +1,7 @@
 //! Case files: calls written down with everything that was lent (docs/CASES.md). A call is read into a value that owns its lists, so it can
 //! be run, kept beside another program's run of a copy, and written down again.
 
+use crate::buffer::Buffer;
 use crate::input::{Columns, Damping, Side, Sides};
 use std::fmt;
 use std::io::{self, BufRead, Write};
@@ -147,6 +148,22 @@ pub(crate) fn write_floats(out: &mut dyn Write, name: &str, items: &[f64]) -> io
 trait Argument: Sized {
     fn read<R: BufRead>(lines: &mut Lines<R>, name: &str) -> Result<Self, CaseError>;
     fn write(&self, out: &mut dyn Write, name: &str) -> io::Result<()>;
+    /// Shows each of its lists, by its name in the file. A side is not shown, since it has no other values.
+    fn look<'a>(&'a mut self, name: &'static str, each: &mut dyn FnMut(&'static str, Lent<'a>));
+}
+
+/// One thing that is lent to a call, to look at or to change.
+#[allow(missing_docs)]
+#[derive(Debug)]
+pub enum Lent<'a> {
+    Number(&'a mut u64),
+    Float(&'a mut f64),
+    Numbers(&'a mut Vec<u32>),
+    Floats(&'a mut Vec<f64>),
+    /// A list that the call may change.
+    NumberBuffer(&'a mut Buffer<u32>),
+    /// The same, of floats.
+    FloatBuffer(&'a mut Buffer<f64>),
 }
 
 impl Argument for u64 {
@@ -155,6 +172,9 @@ impl Argument for u64 {
     }
     fn write(&self, out: &mut dyn Write, name: &str) -> io::Result<()> {
         write_numbers(out, name, &[*self])
+    }
+    fn look<'a>(&'a mut self, name: &'static str, each: &mut dyn FnMut(&'static str, Lent<'a>)) {
+        each(name, Lent::Number(self));
     }
 }
 
@@ -165,6 +185,9 @@ impl Argument for f64 {
     fn write(&self, out: &mut dyn Write, name: &str) -> io::Result<()> {
         write_floats(out, name, &[*self])
     }
+    fn look<'a>(&'a mut self, name: &'static str, each: &mut dyn FnMut(&'static str, Lent<'a>)) {
+        each(name, Lent::Float(self));
+    }
 }
 
 impl Argument for Vec<u32> {
@@ -174,6 +197,9 @@ impl Argument for Vec<u32> {
     fn write(&self, out: &mut dyn Write, name: &str) -> io::Result<()> {
         write_numbers(out, name, self)
     }
+    fn look<'a>(&'a mut self, name: &'static str, each: &mut dyn FnMut(&'static str, Lent<'a>)) {
+        each(name, Lent::Numbers(self));
+    }
 }
 
 impl Argument for Vec<f64> {
@@ -182,6 +208,33 @@ impl Argument for Vec<f64> {
     }
     fn write(&self, out: &mut dyn Write, name: &str) -> io::Result<()> {
         write_floats(out, name, self)
+    }
+    fn look<'a>(&'a mut self, name: &'static str, each: &mut dyn FnMut(&'static str, Lent<'a>)) {
+        each(name, Lent::Floats(self));
+    }
+}
+
+impl Argument for Buffer<u32> {
+    fn read<R: BufRead>(lines: &mut Lines<R>, name: &str) -> Result<Buffer<u32>, CaseError> {
+        Vec::read(lines, name).map(Buffer::from)
+    }
+    fn write(&self, out: &mut dyn Write, name: &str) -> io::Result<()> {
+        write_numbers(out, name, self)
+    }
+    fn look<'a>(&'a mut self, name: &'static str, each: &mut dyn FnMut(&'static str, Lent<'a>)) {
+        each(name, Lent::NumberBuffer(self));
+    }
+}
+
+impl Argument for Buffer<f64> {
+    fn read<R: BufRead>(lines: &mut Lines<R>, name: &str) -> Result<Buffer<f64>, CaseError> {
+        Vec::read(lines, name).map(Buffer::from)
+    }
+    fn write(&self, out: &mut dyn Write, name: &str) -> io::Result<()> {
+        write_floats(out, name, self)
+    }
+    fn look<'a>(&'a mut self, name: &'static str, each: &mut dyn FnMut(&'static str, Lent<'a>)) {
+        each(name, Lent::FloatBuffer(self));
     }
 }
 
@@ -193,6 +246,7 @@ impl Argument for Side {
     fn write(&self, out: &mut dyn Write, name: &str) -> io::Result<()> {
         write_numbers(out, name, &[self.number()])
     }
+    fn look<'a>(&'a mut self, _: &'static str, _: &mut dyn FnMut(&'static str, Lent<'a>)) {}
 }
 
 impl Argument for Damping {
@@ -202,6 +256,11 @@ impl Argument for Damping {
     }
     fn write(&self, out: &mut dyn Write, name: &str) -> io::Result<()> {
         write_floats(out, name, &[self.lambda, self.min, self.max])
+    }
+    fn look<'a>(&'a mut self, _: &'static str, each: &mut dyn FnMut(&'static str, Lent<'a>)) {
+        each("lambda", Lent::Float(&mut self.lambda));
+        each("min", Lent::Float(&mut self.min));
+        each("max", Lent::Float(&mut self.max));
     }
 }
 
@@ -245,6 +304,12 @@ impl Argument for OwnColumns {
         self.rows.write(out, "row_numbers")?;
         self.values.write(out, "values")
     }
+    fn look<'a>(&'a mut self, _: &'static str, each: &mut dyn FnMut(&'static str, Lent<'a>)) {
+        self.nrows.look("row_count", each);
+        self.ptrs.look("ptrs", each);
+        self.rows.look("row_numbers", each);
+        self.values.look("values", each);
+    }
 }
 
 /// Sides that a call owns.
@@ -276,6 +341,10 @@ impl Argument for OwnSides {
     fn write(&self, out: &mut dyn Write, _: &str) -> io::Result<()> {
         self.kept.write(out, "kept")?;
         self.eliminated.write(out, "eliminated")
+    }
+    fn look<'a>(&'a mut self, _: &'static str, each: &mut dyn FnMut(&'static str, Lent<'a>)) {
+        self.kept.look("kept", each);
+        self.eliminated.look("eliminated", each);
     }
 }
 
@@ -321,6 +390,17 @@ macro_rules! calls {
                 Ok(())
             }
 
+            /// Everything that is lent, by its name in the file.
+            pub fn lent(&mut self) -> Vec<(&'static str, Lent<'_>)> {
+                let mut all = Vec::new();
+                match self {
+                    $(Call::$variant { $($field),* } => {
+                        $($field.look(stringify!($field), &mut |name, lent| all.push((name, lent)));)*
+                    })*
+                }
+                all
+            }
+
             /// Writes the buffers that the call may change, as they are now.
             pub fn write_buffers(&self, out: &mut dyn Write) -> io::Result<()> {
                 match self {
@@ -340,13 +420,13 @@ calls! {
     /// The dot of two columns.
     ColumnDot "column_dot" { columns: OwnColumns, a: u64, b: u64 }
     /// `Jᵀ·v`.
-    JtVec "jt_vec" { columns: OwnColumns, v: Vec<f64>, out: Vec<f64> = after }
+    JtVec "jt_vec" { columns: OwnColumns, v: Vec<f64>, out: Buffer<f64> = after }
     /// The diagonal of `JᵀJ`.
-    DiagJtJ "diag_jt_j" { columns: OwnColumns, out: Vec<f64> = after }
+    DiagJtJ "diag_jt_j" { columns: OwnColumns, out: Buffer<f64> = after }
     /// `Jᵀ(J·v)`.
-    JtJVecProduct "jt_j_vec_product" { columns: OwnColumns, v: Vec<f64>, rows: Vec<f64> = after, out: Vec<f64> = after }
+    JtJVecProduct "jt_j_vec_product" { columns: OwnColumns, v: Vec<f64>, rows: Buffer<f64> = after, out: Buffer<f64> = after }
     /// The check of columns and blocks.
-    CheckBlocks "check_blocks" { columns: OwnColumns, sides: OwnSides, map: Vec<u32> = after }
+    CheckBlocks "check_blocks" { columns: OwnColumns, sides: OwnSides, map: Buffer<u32> = after }
     /// Where a column stands.
     Slot "slot" { sides: OwnSides, column: u64 }
     /// Where it stands among the kept.
@@ -357,57 +437,57 @@ calls! {
     Block "block" { block_values: Vec<f64>, eliminated: Vec<u32>, number: u64 }
     /// The diagonal blocks of `EᵀE`.
     GatherFromJacobian "gather_from_jacobian" {
-        columns: OwnColumns, sides: OwnSides, map: Vec<u32> = after, block_values: Vec<f64> = after
+        columns: OwnColumns, sides: OwnSides, map: Buffer<u32> = after, block_values: Buffer<f64> = after
     }
     /// Damping added to every block.
     Damp "damp" {
-        columns: OwnColumns, sides: OwnSides, map: Vec<u32> = after, damping: Damping, block_values: Vec<f64> = after
+        columns: OwnColumns, sides: OwnSides, map: Buffer<u32> = after, damping: Damping, block_values: Buffer<f64> = after
     }
     /// What damping adds to one value.
     DiagonalTerm "diagonal_term" { damping: Damping, value: f64 }
     /// The structure plan.
     Plan "plan" {
-        columns: OwnColumns, sides: OwnSides, chunk: u64, map: Vec<u32> = after,
-        kept_cols: Vec<u32> = after, elim_cols: Vec<u32> = after, elim_block: Vec<u32> = after,
-        owners: Vec<u32> = after, row_lists: Vec<u32> = after, row_starts: Vec<u32> = after,
-        visible: Vec<u32> = after, visible_starts: Vec<u32> = after,
-        kept_starts: Vec<u32> = after, kept_lo: Vec<u32> = after, kept_hi: Vec<u32> = after, kept_local: Vec<u32> = after,
-        elim_starts: Vec<u32> = after, elim_lo: Vec<u32> = after, elim_hi: Vec<u32> = after, elim_local: Vec<u32> = after
+        columns: OwnColumns, sides: OwnSides, chunk: u64, map: Buffer<u32> = after,
+        kept_cols: Buffer<u32> = after, elim_cols: Buffer<u32> = after, elim_block: Buffer<u32> = after,
+        owners: Buffer<u32> = after, row_lists: Buffer<u32> = after, row_starts: Buffer<u32> = after,
+        visible: Buffer<u32> = after, visible_starts: Buffer<u32> = after,
+        kept_starts: Buffer<u32> = after, kept_lo: Buffer<u32> = after, kept_hi: Buffer<u32> = after, kept_local: Buffer<u32> = after,
+        elim_starts: Buffer<u32> = after, elim_lo: Buffer<u32> = after, elim_hi: Buffer<u32> = after, elim_local: Buffer<u32> = after
     }
     /// The block inverses times a vector.
     ApplyEliminatedInverse "apply_eliminated_inverse" {
-        columns: OwnColumns, sides: OwnSides, map: Vec<u32> = after, b: Vec<f64>, inverses: Vec<f64>, out: Vec<f64> = after
+        columns: OwnColumns, sides: OwnSides, map: Buffer<u32> = after, b: Vec<f64>, inverses: Vec<f64>, out: Buffer<f64> = after
     }
     /// From the eliminated columns to the kept ones.
     CouplingTimes "coupling_times" {
-        columns: OwnColumns, sides: OwnSides, map: Vec<u32> = after, u: Vec<f64>, rows: Vec<f64> = after, out: Vec<f64> = after
+        columns: OwnColumns, sides: OwnSides, map: Buffer<u32> = after, u: Vec<f64>, rows: Buffer<f64> = after, out: Buffer<f64> = after
     }
     /// From the kept columns to the eliminated ones.
     CouplingTransposeTimes "coupling_transpose_times" {
-        columns: OwnColumns, sides: OwnSides, map: Vec<u32> = after, v: Vec<f64>, rows: Vec<f64> = after, out: Vec<f64> = after
+        columns: OwnColumns, sides: OwnSides, map: Buffer<u32> = after, v: Vec<f64>, rows: Buffer<f64> = after, out: Buffer<f64> = after
     }
     /// Both sides' updates put back at their columns.
     CombineUpdates "combine_updates" {
-        columns: OwnColumns, sides: OwnSides, map: Vec<u32> = after, kept_v: Vec<f64>, elim_v: Vec<f64>, out: Vec<f64> = after
+        columns: OwnColumns, sides: OwnSides, map: Buffer<u32> = after, kept_v: Vec<f64>, elim_v: Vec<f64>, out: Buffer<f64> = after
     }
     /// One side's sweep along a work order.
     Sweep "sweep" {
-        side: Side, columns: OwnColumns, sides: OwnSides, map: Vec<u32> = after, chunk: u64, v: Vec<f64>,
+        side: Side, columns: OwnColumns, sides: OwnSides, map: Buffer<u32> = after, chunk: u64, v: Vec<f64>,
         starts: Vec<u32>, lo: Vec<u32>, hi: Vec<u32>, local: Vec<u32>,
-        rows: Vec<f64> = after, progress: Vec<u32> = after, order: Vec<u32>
+        rows: Buffer<f64> = after, progress: Buffer<u32> = after, order: Vec<u32>
     }
     /// One step of a sweep.
     Step "step" {
-        side: Side, columns: OwnColumns, sides: OwnSides, map: Vec<u32> = after, chunk: u64, v: Vec<f64>,
+        side: Side, columns: OwnColumns, sides: OwnSides, map: Buffer<u32> = after, chunk: u64, v: Vec<f64>,
         starts: Vec<u32>, lo: Vec<u32>, hi: Vec<u32>, local: Vec<u32>,
-        rows: Vec<f64> = after, progress: Vec<u32> = after, chunk_number: u64
+        rows: Buffer<f64> = after, progress: Buffer<u32> = after, chunk_number: u64
     }
     /// The reduced operator.
     ApplySchurOperator "apply_schur_operator" {
-        columns: OwnColumns, sides: OwnSides, map: Vec<u32> = after, chunk: u64, v: Vec<f64>, inverses: Vec<f64>, d: Vec<f64>,
+        columns: OwnColumns, sides: OwnSides, map: Buffer<u32> = after, chunk: u64, v: Vec<f64>, inverses: Vec<f64>, d: Vec<f64>,
         kept_starts: Vec<u32>, kept_lo: Vec<u32>, kept_hi: Vec<u32>, kept_local: Vec<u32>,
         elim_starts: Vec<u32>, elim_lo: Vec<u32>, elim_hi: Vec<u32>, elim_local: Vec<u32>,
-        rows: Vec<f64> = after, t: Vec<f64> = after, u: Vec<f64> = after, out: Vec<f64> = after
+        rows: Buffer<f64> = after, t: Buffer<f64> = after, u: Buffer<f64> = after, out: Buffer<f64> = after
     }
 }
 

@@ -9,7 +9,8 @@
 //! | `ffi` | the declarations of the exports |
 //! | [`raw`] | the exports on slices, safe, with numbers as they come |
 //! | crate root | the calls with results of their own |
-//! | [`case`], [`answer`] | case files (docs/CASES.md): reading, answering, writing |
+//! | [`case`], [`answer`], [`buffer`] | case files (docs/CASES.md): reading, answering, writing; buffers between guards |
+//! | [`model`], [`compare`] | document 01 written down plainly, and the comparison of it and of the original with the port |
 
 #![deny(unsafe_code)]
 #![warn(missing_docs)]
@@ -18,10 +19,13 @@
 compile_error!("counts cross the edge as 64-bit numbers");
 
 pub mod answer;
+pub mod buffer;
 mod calls;
 pub mod case;
+pub mod compare;
 mod ffi;
 mod input;
+pub mod model;
 mod plan;
 pub mod raw;
 mod refusal;
