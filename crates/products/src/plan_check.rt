@@ -42,7 +42,10 @@ fn some_row_out(rows: &[u32], from: u32, end: u32, lo: usize, hi: usize) -> bool
 }
 
 // How many columns after the one before are tried before they are halved.
-const NEXT_FEW: usize = 4;
+const NEXT_FEW: usize = 16;
+
+// A span of fewer entries is looked at entry by entry: to find its column costs more.
+const FEW_ENTRIES: usize = 6;
 
 // From column j on, the last of a few columns that begins at place a or before it.
 fn next_column(ptrs: &[u32], j: usize, a: usize) -> usize {
@@ -93,6 +96,12 @@ fn in_column(ptrs: &[u32], j: usize, a: usize, b: usize) -> bool
 
 // A column to try for places a up to b, after column j. Nothing rests on it but time.
 fn guess_column(ptrs: &[u32], j: usize, a: usize, b: usize) -> usize {
+    if b <= a {
+        return j;
+    }
+    if b - a < FEW_ENTRIES {
+        return j;
+    }
     let next = next_column(ptrs, j, a);
     if in_column(ptrs, next, a, b) {
         return next;
@@ -106,6 +115,9 @@ fn rows_out(ptrs: &[u32], rows: &[u32], from: u32, end: u32, j: usize, a: usize,
     requires { ⌜ SomeThere (length (now rows)) a b ⌝ }
     ensures { λ r. ⌜ r ≡ some (rowOut (now (rows .entry)) from end) a b ⌝ }
 {
+    if b - a < FEW_ENTRIES {
+        return some_row_out(rows, from, end, a, b);
+    }
     if in_column(ptrs, j, a, b) {
         return (rows[a] < from) | (end <= rows[b - 1]);
     }

@@ -6,4 +6,5 @@ use Rattle.products.proofs.plan_check.guess_column.Tie as tie
 pub guess-column-spec : {M : Type 1} → statement M
 guess-column-spec =
     tie.close (tie.spec
-    (λ c κs. search planning) (λ c κs. search planning) (λ c. search planning) (λ c κs. search planning) (λ c. search planning))
+    (λ c. search planning) (λ c. search planning) (λ c. search planning) (λ c κs. search planning) (λ c κs. search planning)
+    (λ c. search planning) (λ c κs. search planning) (λ c. search planning))

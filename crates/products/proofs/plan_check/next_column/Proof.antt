@@ -8,7 +8,7 @@ abbrev Inv-loop : tie.InvT-loop
 Inv-loop ptrs j a n at₀ counter₀ at counter = at < n
 
 abbrev μ-loop : tie.MeasureT-loop
-μ-loop ptrs j a n at₀ counter₀ at counter = 4 - counter
+μ-loop ptrs j a n at₀ counter₀ at counter = 16 - counter
 
 pub next-column-spec : {M : Type 1} → statement M
 next-column-spec =
