@@ -34,7 +34,8 @@ use Rattle.plan.specs.RowLists.{ListsFit}
 use Rattle.plan.specs.VisibleWalk.{visibleWith, VisibleFits}
 use Rattle.plan.specs.Spans.{chunkTold, chunkCount, chunkSpans, sideSpans, Spread, spread, Spanned, spanned}
 use Rattle.plan.specs.SpanWalk.{Chunked, SpansFit}
-use Rattle.plan.specs.Plan.{Buffers, columnBlocks, roomList, room, planEarly, planBlocks, planConnected, planTold, planOf, marks, lent, planLeft, planned}
+use Rattle.plan.specs.Plan.{Buffers, columnBlocks, roomOf, room, planEarly, planBlocks, planConnected, planTold, planOf, marks, lent, planLeft, planned}
+use Rattle.plan.specs.RoomCheck.{RoomFits}
 use Rattle.plan.specs.ColumnLists.{ColumnsFit, Counted, columnsListed, blocksListed}
 use Rattle.plan.proofs.ChunkLaws.{chunk-passes}
 use Rattle.plan.proofs.OwnerCalls.{parted-side, owners-in, owners-values, left-pass, left-refused}
@@ -52,6 +53,11 @@ pub record Ready (m : Columns) (kept elims : List ℕ) (len : ℕ) (b : Buffers)
   pub chunked : Chunked (m .nrows) len
   pub roomy : Passes (noRoom (room m kept elims len b))
 
+-- the chunks are few
+pub chunks-few : (nrows len : ℕ) → Chunked nrows len → chunkCount nrows len ≤ 2_097_152
+unfolding chunkCount
+chunks-few nrows len c = le-trans (div-le-self (nrows + (len - 1)) len) (omega (arith, c .few-len, c .few-rows))
+
 module _ (m : Columns) (kept elims : List ℕ) (len : ℕ) (parts : done ≡ partsTold m kept elims (chunkTold len)) where
   abbrev passes : Passes (partsTold m kept elims (chunkTold len))
   passes = ap (λ (t : Told). t .number) (sym parts)
@@ -62,15 +68,12 @@ module _ (m : Columns) (kept elims : List ℕ) (len : ℕ) (parts : done ≡ par
   pub early-chunked : Chunked (m .nrows) len
   early-chunked = chunk-passes (m .nrows) len (parts-passes m kept elims (chunkTold len) passes .3) (early-keeps .small .few-rows)
 
-  -- a side's blocks and the chunks are few
+  -- a side's blocks are few
   pub early-blocks : (e : Bool) → blockCount (sideOf e kept elims) ≤ 65_536
   early-blocks e = sides-few kept elims (parts-passes m kept elims (chunkTold len) passes .1) e .0
 
-  pub early-chunks : (chunks : ℕ) → chunks ≡ chunkCount (m .nrows) len → chunks ≤ 2_097_152
-  unfolding chunkCount
-  early-chunks chunks e =
-      let c = early-chunked in
-      rw e (le-trans (div-le-self (m .nrows + (len - 1)) len) (omega (arith, c .few-len, c .few-rows)))
+  pub early-room : RoomFits (m .nrows) len (blockCount kept) (blockCount elims)
+  early-room = record { chunked = early-chunked; few-kept = early-blocks false; few-elims = early-blocks true }
 
   module _ (b : Buffers) (fits : done ≡ noRoom (room m kept elims len b)) where
     abbrev roomy : Passes (noRoom (room m kept elims len b))
@@ -92,11 +95,11 @@ module _ (m : Columns) (kept elims : List ℕ) (len : ℕ) (parts : done ≡ par
       roomy = roomy;
     }
 
--- the room list as the code has it, with the numbers n and chunks that it was told
-pub room-is : (m : Columns) (kept elims : List ℕ) (len : ℕ) (b : Buffers) (n chunks : ℕ) (t : Told) → n ≡ columnCount m → chunks ≡ chunkCount (m .nrows) len
-    → t ≡ noRoom (roomList n (m .nrows) (entryCount m) (blockCount kept) (blockCount elims) chunks b) → t ≡ noRoom (room m kept elims len b)
+-- the room list as the code has it, with the number n that it was told
+pub room-is : (m : Columns) (kept elims : List ℕ) (len : ℕ) (b : Buffers) (n : ℕ) (t : Told) → n ≡ columnCount m
+    → t ≡ noRoom (roomOf n (m .nrows) (entryCount m) (blockCount kept) (blockCount elims) (chunkCount (m .nrows) len) b) → t ≡ noRoom (room m kept elims len b)
 unfolding room
-room-is m kept elims len b n chunks t p q e = e ∙ rw (p, q)
+room-is m kept elims len b n t p e = e ∙ rw p
 
 -- ---- what the functions ask
 
@@ -306,9 +309,9 @@ module _ (m : Columns) (kept elims : List ℕ) (len : ℕ) (b : Buffers) where
 pub parts-fact : (rest parts : Answer) (m : Columns) (kept elims : List ℕ) (len : ℕ) → told rest ≡ chunkTold len → told parts ≡ partsTold m kept elims (told rest) → parts ≡ Done → done ≡ partsTold m kept elims (chunkTold len)
 parts-fact rest parts m kept elims len e q d = told-done parts _ (rw e at q) d
 
-pub room-fact : (fits : Answer) (m : Columns) (kept elims : List ℕ) (len : ℕ) (b : Buffers) (n chunks : ℕ) → n ≡ columnCount m → chunks ≡ chunkCount (m .nrows) len
-    → told fits ≡ noRoom (roomList n (m .nrows) (entryCount m) (blockCount kept) (blockCount elims) chunks b) → fits ≡ Done → done ≡ noRoom (room m kept elims len b)
-room-fact fits m kept elims len b n chunks p q e d = told-done fits _ (room-is m kept elims len b n chunks (told fits) p q e) d
+pub room-fact : (fits : Answer) (m : Columns) (kept elims : List ℕ) (len : ℕ) (b : Buffers) (n : ℕ) → n ≡ columnCount m
+    → told fits ≡ noRoom (roomOf n (m .nrows) (entryCount m) (blockCount kept) (blockCount elims) (chunkCount (m .nrows) len) b) → fits ≡ Done → done ≡ noRoom (room m kept elims len b)
+room-fact fits m kept elims len b n p e d = told-done fits _ (room-is m kept elims len b n (told fits) p e) d
 
 module _ (walked : Answer) (kept elims map map′ : List ℕ) (n k : ℕ) (e : n ≡ k) (q : record { told = told walked; map = map′ } ≡ walkBlocks n (claims n kept elims) map) where
   pub walk-fact : walked ≡ Done → record { told = done; map = map′ } ≡ walkBlocks k (claims k kept elims) map

@@ -6,5 +6,6 @@ pub mod Entries
 pub mod VisibleWalk
 pub mod Spans
 pub mod SpanWalk
+pub mod RoomCheck
 pub mod Plan
 pub mod ColumnLists

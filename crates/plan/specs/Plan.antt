@@ -42,29 +42,37 @@ buffers map keptCols elimsCols elimsBlocks owners rowList rowStarts visible visi
   elims = record { starts = elimsStarts; lo = elimsLo; hi = elimsHi; local = elimsLocal };
 }
 
--- a list with its starts, and a side's spans, as pairs of length and need
-abbrev pub listRoom : Listed → ℕ → ℕ → List ℕ → List ℕ
-listRoom l items lists rest = length (l .list) ∷ items ∷ length (l .starts) ∷ (lists + 1) ∷ rest
+-- each buffer's length and its need, for n columns, that many rows, entries, kept and eliminated blocks, and chunks
+abbrev pub roomList : ℕ → ℕ → ℕ → ℕ → ℕ → ℕ → ℕ → ℕ → ℕ → ℕ → ℕ → ℕ → ℕ → ℕ → ℕ → ℕ → ℕ → ℕ → ℕ → ℕ → ℕ → ℕ → ℕ → List ℕ
+roomList n nrows entries kept elims chunks map keptCols elimsCols elimsBlocks owners rowList rowStarts visible visibleStarts keptStarts keptLo keptHi keptLocal elimsStarts elimsLo elimsHi elimsLocal =
+    map ∷ n
+    ∷ keptCols ∷ n
+    ∷ elimsCols ∷ n
+    ∷ elimsBlocks ∷ n
+    ∷ owners ∷ nrows
+    ∷ rowList ∷ nrows
+    ∷ rowStarts ∷ (elims + 1)
+    ∷ visible ∷ entries
+    ∷ visibleStarts ∷ (kept + 1)
+    ∷ keptStarts ∷ (chunks + 1)
+    ∷ keptLo ∷ entries
+    ∷ keptHi ∷ entries
+    ∷ keptLocal ∷ entries
+    ∷ elimsStarts ∷ (chunks + 1)
+    ∷ elimsLo ∷ entries
+    ∷ elimsHi ∷ entries
+    ∷ elimsLocal ∷ entries
+    ∷ []
 
-abbrev pub spanRoom : Spread → ℕ → ℕ → List ℕ → List ℕ
-spanRoom s chunks entries rest =
-    length (s .starts) ∷ (chunks + 1) ∷ length (s .lo) ∷ entries ∷ length (s .hi) ∷ entries ∷ length (s .local) ∷ entries ∷ rest
-
--- length and need of each buffer, for n columns, that many rows, entries, kept and eliminated blocks, and chunks
-abbrev pub roomList : ℕ → ℕ → ℕ → ℕ → ℕ → ℕ → Buffers → List ℕ
-roomList n nrows entries kept elims chunks b =
-    length (b .map) ∷ n
-    ∷ length (b .keptCols) ∷ n
-    ∷ length (b .elimsCols) ∷ n
-    ∷ length (b .elimsBlocks) ∷ n
-    ∷ length (b .owners) ∷ nrows
-    ∷ listRoom (b .rowLists) nrows elims
-    (listRoom (b .visible) entries kept
-    (spanRoom (b .kept) chunks entries
-    (spanRoom (b .elims) chunks entries [])))
+abbrev pub roomOf : ℕ → ℕ → ℕ → ℕ → ℕ → ℕ → Buffers → List ℕ
+roomOf n nrows entries kept elims chunks b =
+    roomList n nrows entries kept elims chunks (length (b .map)) (length (b .keptCols)) (length (b .elimsCols)) (length (b .elimsBlocks)) (length (b .owners))
+    (length (b .rowLists .list)) (length (b .rowLists .starts)) (length (b .visible .list)) (length (b .visible .starts))
+    (length (b .kept .starts)) (length (b .kept .lo)) (length (b .kept .hi)) (length (b .kept .local))
+    (length (b .elims .starts)) (length (b .elims .lo)) (length (b .elims .hi)) (length (b .elims .local))
 
 unfoldable pub room : Columns → List ℕ → List ℕ → ℕ → Buffers → List ℕ
-room m kept elims len b = roomList (columnCount m) (m .nrows) (entryCount m) (blockCount kept) (blockCount elims) (chunkCount (m .nrows) len) b
+room m kept elims len b = roomOf (columnCount m) (m .nrows) (entryCount m) (blockCount kept) (blockCount elims) (chunkCount (m .nrows) len) b
 
 -- ---- what is told
 

@@ -17,9 +17,14 @@ use columns::refusal::Refusal;
 use columns::refusal::no_room;
 use columns::refusal::or_else;
 ghost use mathlib.Core.Path.{_≡_};
+ghost use Prim.Native.Nat.{_/_};
 ghost use lib.ListN.{length};
+ghost use Rattle.columns.specs.Refusals.{told};
+ghost use Rattle.columns.specs.Lengths.{noRoom};
 ghost use Rattle.columns.specs.Columns.{columnsOf};
-ghost use Rattle.plan.specs.Plan.{toldPlan, buffers, planned};
+ghost use Rattle.plan.specs.Spans.{chunkCount};
+ghost use Rattle.plan.specs.Plan.{roomList, toldPlan, buffers, planned};
+ghost use Rattle.plan.specs.RoomCheck.{RoomFits};
 
 // What planning answers: how many spans each side has, or why there is no plan.
 pub enum Planned {
@@ -28,6 +33,75 @@ pub enum Planned {
         eliminated_spans: usize,
     },
     Refused(Refusal),
+}
+
+// Refusal 6: each buffer's length and need, in the order of the room list. It takes lengths alone, so that `plan` holds no list of them.
+fn check_room(
+    n: usize,
+    nrows: usize,
+    entries: usize,
+    kept: usize,
+    elims: usize,
+    chunk_len: usize,
+    map: usize,
+    kept_cols: usize,
+    elims_cols: usize,
+    elims_blocks: usize,
+    owners: usize,
+    row_list: usize,
+    row_starts: usize,
+    visible: usize,
+    visible_starts: usize,
+    kept_starts: usize,
+    kept_lo: usize,
+    kept_hi: usize,
+    kept_local: usize,
+    elims_starts: usize,
+    elims_lo: usize,
+    elims_hi: usize,
+    elims_local: usize,
+) -> Answer
+    requires { ⌜ RoomFits nrows «chunk_len» (kept / 2) (elims / 2) ⌝ }
+    ensures { λ r. ⌜ told r ≡ noRoom (roomList n nrows entries (kept / 2) (elims / 2) (chunkCount nrows «chunk_len») map «kept_cols» «elims_cols» «elims_blocks» owners «row_list» «row_starts» visible «visible_starts» «kept_starts» «kept_lo» «kept_hi» «kept_local» «elims_starts» «elims_lo» «elims_hi» «elims_local») ⌝ }
+{
+    let starts = chunk_count(nrows, chunk_len) + 1;
+    let room = [
+        map,
+        n,
+        kept_cols,
+        n,
+        elims_cols,
+        n,
+        elims_blocks,
+        n,
+        owners,
+        nrows,
+        row_list,
+        nrows,
+        row_starts,
+        elims / 2 + 1,
+        visible,
+        entries,
+        visible_starts,
+        kept / 2 + 1,
+        kept_starts,
+        starts,
+        kept_lo,
+        entries,
+        kept_hi,
+        entries,
+        kept_local,
+        entries,
+        elims_starts,
+        starts,
+        elims_lo,
+        entries,
+        elims_hi,
+        entries,
+        elims_local,
+        entries,
+    ];
+    no_room(&room)
 }
 
 // Plans the structure: owners of the rows, row lists, visible lists, and the spans of both sides in chunks of `chunk_len` rows.
@@ -72,47 +146,34 @@ pub fn plan(
     if let Answer::Refused(r) = parts {
         return Planned::Refused(r);
     }
-    // 6: each buffer's length and need, in the order of the room list
+    // 6
     let n = column_count(ptrs);
-    let entries = rows.len();
-    let chunks = chunk_count(nrows, chunk_len);
-    let room = [
+    let room = check_room(
+        n,
+        nrows,
+        rows.len(),
+        kept.len(),
+        elims.len(),
+        chunk_len,
         map.len(),
-        n,
         kept_cols.len(),
-        n,
         elims_cols.len(),
-        n,
         elims_blocks.len(),
-        n,
         owners.len(),
-        nrows,
         row_list.len(),
-        nrows,
         row_starts.len(),
-        elims.len() / 2 + 1,
         visible.len(),
-        entries,
         visible_starts.len(),
-        kept.len() / 2 + 1,
         kept_starts.len(),
-        chunks + 1,
         kept_lo.len(),
-        entries,
         kept_hi.len(),
-        entries,
         kept_local.len(),
-        entries,
         elims_starts.len(),
-        chunks + 1,
         elims_lo.len(),
-        entries,
         elims_hi.len(),
-        entries,
         elims_local.len(),
-        entries,
-    ];
-    if let Answer::Refused(r) = no_room(&room) {
+    );
+    if let Answer::Refused(r) = room {
         return Planned::Refused(r);
     }
     // 7 to 9, and the column map
