@@ -4,12 +4,13 @@ use mathlib.Core.Path.{_≡_, refl, sym, _∙_}
 use mathlib.Core.Bool.{Bool, cond}
 use mathlib.Core.List.{List}
 use Prim.Native.Nat.{ℕ, zero, suc, _+_, _-_, _≤_, _<_}
-use native.Mathlib.Decide.{ℕ-discrete, decLt}
+use native.Mathlib.Decide.{ℕ-discrete}
 use native.Mathlib.Nat.{le-trans}
 use native.Mathlib.Omega.{arith}
 use lib.Dec.{ltb}
 use lib.ListN.{getD}
 use borrow.Author.Tests.{lt-ltb, le-ltb}
+use Rattle.ground.proofs.NumberLaws.{not-more}
 use Rattle.columns.specs.Columns.{Columns, columnCount, entryCount, firstIn, endIn, Keeps}
 use Rattle.columns.proofs.CheckLaws.{column-run, columns-apart}
 use Rattle.blocks.specs.Sides.{cols, sideDof, sideOf}
@@ -43,14 +44,6 @@ module _ (ptrs cs : List ℕ) where
   all-below k (suc n) h = rw (all-below k n (λ l p. h l (omega arith)), lt-ltb (getD cs n 0) k (h n (omega arith)))
 
   -- where column k is not among them, it adds nothing
-  not-more : (c k : ℕ) → (c ≡ k → ⊥) → ltb c (suc k) ≡ ltb c k
-  not-more c k ne = go (decLt c k) (decLt k c)
-    where
-      go : Dec (c < k) → Dec (k < c) → ltb c (suc k) ≡ ltb c k
-      go (yes p) _ = lt-ltb c (suc k) (omega arith) ∙ sym (lt-ltb c k p)
-      go (no p) (yes q) = le-ltb c (suc k) (omega arith) ∙ sym (le-ltb c k (omega arith))
-      go (no p) (no q) = absurd (ne (omega arith))
-
   more-none : (k n : ℕ) → ((l : ℕ) → l < n → getD cs l 0 ≡ k → ⊥) → entriesBelow ptrs cs (suc k) n ≡ entriesBelow ptrs cs k n
   unfolding entriesBelow
   more-none k zero ne = refl

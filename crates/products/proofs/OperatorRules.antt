@@ -4,7 +4,6 @@ use mathlib.Core.Bool.{Bool, true, false, cond}
 use mathlib.Core.List.{List, [], _∷_, _++_, append-nil}
 use Prim.Native.Nat.{ℕ, zero, suc, _+_, _≤_, _<_}
 use native.Mathlib.Omega.{arith}
-use native.Mathlib.Decide.{decLt}
 use lib.Dec.{ltb}
 use lib.ListN.{length, getD, set}
 use lib.Ieee.{Float, nan, binary64, add, mul}
@@ -14,6 +13,7 @@ use Rattle.ground.specs.Gather.{listOf}
 use Rattle.ground.proofs.Rules.{loops}
 use Rattle.ground.proofs.RangeLaws.{range-none, range-last}
 use Rattle.ground.proofs.GatherLaws.{getD-listOf}
+use Rattle.ground.proofs.NumberLaws.{not-more}
 use Rattle.ground.proofs.ListLaws.{listOf-same, set-listOf}
 use Rattle.ground.proofs.FoldLaws.{folded-append, folded-one}
 use Rattle.columns.specs.declared.refusal.Refusal.{Refusal}
@@ -56,14 +56,6 @@ damp-vector d v out l f h = omega (arith, f .vector)
 
 pub damp-out : (d v out l k : ℕ) → DampFits d v out → l < d → k ≡ out → l < k
 damp-out d v out l k f h e = omega (arith, f .room)
-
-not-more : (c k : ℕ) → (c ≡ k → ⊥) → ltb c (suc k) ≡ ltb c k
-not-more c k ne = go (decLt c k) (decLt k c)
-  where
-    go : Dec (c < k) → Dec (k < c) → ltb c (suc k) ≡ ltb c k
-    go (yes p) _ = lt-ltb c (suc k) (omega arith) ∙ sym (lt-ltb c k p)
-    go (no p) (yes q) = le-ltb c (suc k) (omega arith) ∙ sym (le-ltb c k (omega arith))
-    go (no p) (no q) = absurd (ne (omega arith))
 
 -- a list of sums with d·v added at its first places, one for each of d's
 module _ (g : ℕ → Float) (n : ℕ) (d v : List Float) where

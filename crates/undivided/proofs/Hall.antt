@@ -7,16 +7,15 @@ use Prim.Native.Nat.{ℕ}
 use native.Mathlib.Omega.{arith}
 use native.Mathlib.Nat.{le-refl}
 use contract.Lifetimes.{Lfts}
-use lib.IntN.{pos, negsuc}
 use lib.ListN.{length, replicate}
-use lib.Ieee.{Float, binary64, ofInt, ofBits, neg, add, sub, mul, eq}
+use lib.Ieee.{Float, ofInt, ofBits, neg, add, sub, mul, eq}
 use Rattle.ground.specs.First.{first, firstN}
 use Rattle.ground.specs.Gather.{gather, gatherN}
 use Rattle.ground.specs.Fold.{folded}
 use Rattle.columns.specs.declared.unchecked.Sign.the-variants.{Plus, Minus}
 use Rattle.columns.specs.Refusals.{Passes, tell, done, onPass}
 use Rattle.columns.specs.Lengths.{pairBad, pairsTold, noRoom}
-use Rattle.columns.specs.Columns.{Columns, columnsOf, firstIn, endIn, tooBig, falls, badShape, rowBad, rowFalls, columnBad, badRow, checked}
+use Rattle.columns.specs.Columns.{Columns, firstIn, endIn, tooBig, falls, badShape, rowBad, rowFalls, columnBad, badRow, checked}
 use Rattle.columns.specs.Sums.{addTerm, joined, landed, sweptOn}
 use Rattle.columns.specs.JacobianOps.{entryTerm, landing, landings}
 use Rattle.blocks.specs.Sides.{blockColumns, offsetOf}
@@ -27,17 +26,18 @@ use Rattle.columns.proofs.CallLaws.{room-right}
 use Rattle.blocks.specs.Sides.{sideOf}
 use Rattle.plan.specs.Owners.{sideEntries, entryAt, columnEntries, blockEntries, holder, clashes, connectedTold, Connects}
 use Rattle.plan.specs.declared.structure.Planned as plan
-use Rattle.plan.specs.Plan.{Buffers, buffers, room, toldPlan, planTold, planLeft}
+use Rattle.plan.specs.Plan.{Buffers, room, toldPlan, planTold, planLeft}
 use Rattle.plan_laws.proofs.ConnectedLaws.{connects-told}
 use Rattle.plan_laws.proofs.PlanLaws.{Sound, unconnected-planned}
 use Rattle.plan_laws.proofs.Determined.{plan-tells}
 use Rattle.plan.proofs.structure.plan.Reads as planning
-use Rattle.plan.specs.Spans.{sideSpans, chunkTold, chunkCount, inChunk, placeIn, pastLast, columnSpan, localSpans, Spread}
+use Rattle.plan.specs.Spans.{sideSpans, chunkTold, chunkCount, inChunk, placeIn, pastLast, columnSpan, localSpans}
 use Rattle.plan.specs.SpanWalk.{Chunked}
 use Rattle.products.specs.Orders.{entryOut, spanBad, chunkBad, startsBad, planBad, badPlan, spanCount, served, hasNext, placeBad, chunkLeft, badOrder, orderTerms, sweepTold₁₄}
 use Rattle.products.specs.SideSums.{sideTerms, sideGather, inverseTerm, inverseEntry, inverseBlock}
 use Rattle.products.specs.Steps.{stepsOf}
 use Rattle.products.specs.Operator.{Work, dampLength, dampTerm, keptSum, operated}
+use Rattle.hall.specs.Hall.{f, half, quarter, hall, kept, elims, keptLists, elimsLists, v, firstRows, t, u, lastRows, operands, unusedMap, unusedBuffers, unusedWork}
 use Rattle.undivided.specs.Plain.{plainOperated}
 use Rattle.undivided.specs.Undivided.{Planned, SidePlanned, cut, listsOf, Serves, SweepFits, OperatorFits}
 use Rattle.undivided.proofs.OperatorLaws.{operator-plain}
@@ -45,18 +45,6 @@ use Rattle.undivided.proofs.Demand3.{left-planned, rows-of-order}
 use Rattle.undivided.proofs.OrderLaws.{accepted-serves}
 use Rattle.plan_laws.proofs.CallParts.{planColumns, planKept, planElims, planLen, planLent}
 use Rattle.undivided.proofs.StepLaws.{steps-undivided}
-
-abbrev f : ℕ → Float
-f n = ofInt binary64 (pos n)
-
-abbrev hall : Columns
-hall = columnsOf 5 (0 ∷ 4 ∷ 6 ∷ 8 ∷ []) (0 ∷ 1 ∷ 3 ∷ 4 ∷ 0 ∷ 1 ∷ 3 ∷ 4 ∷ []) (f 1 ∷ f 2 ∷ f 3 ∷ f 4 ∷ f 1 ∷ f 1 ∷ f 2 ∷ f 1 ∷ [])
-
-abbrev kept : List ℕ
-kept = 0 ∷ 1 ∷ []
-
-abbrev elims : List ℕ
-elims = 1 ∷ 1 ∷ 2 ∷ 1 ∷ []
 
 -- it keeps the rules
 hall-passes : Passes (blocksTold hall kept elims (replicate 3 0))
@@ -70,12 +58,6 @@ hall-chunked : Chunked 5 2
 hall-chunked = record { some-len = omega arith; few-len = omega arith; few-rows = omega arith }
 
 -- case 2's spans are the plans of its sides
-abbrev keptLists : Spread
-keptLists = record { starts = 0 ∷ 1 ∷ 2 ∷ 3 ∷ []; lo = 0 ∷ 2 ∷ 3 ∷ []; hi = 2 ∷ 3 ∷ 4 ∷ []; local = 0 ∷ 0 ∷ 0 ∷ [] }
-
-abbrev elimsLists : Spread
-elimsLists = record { starts = 0 ∷ 1 ∷ 2 ∷ 3 ∷ []; lo = 4 ∷ 6 ∷ 7 ∷ []; hi = 6 ∷ 7 ∷ 8 ∷ []; local = 0 ∷ 1 ∷ 1 ∷ [] }
-
 kept-lists : Planned hall kept 2 keptLists
 unfolding first firstN gather gatherN firstIn endIn blockColumns offsetOf chunkCount inChunk placeIn pastLast columnSpan localSpans
 kept-lists = record { starts-are = refl; lo-are = refl; hi-are = refl; local-are = refl }
@@ -103,52 +85,45 @@ unfolding first firstN chunkCount spanCount served hasNext placeBad chunkLeft ba
 elims-accepted = refl
 
 -- so, by demand 3, it makes case 3's rows: its first ones from +0.0, and from those its last ones
-abbrev firstRows : List Float
-firstRows = f 2 ∷ f 4 ∷ f 0 ∷ f 6 ∷ f 8 ∷ []
-
-kept-undivided : sweptOn Plus (replicate 5 (f 0)) (sideTerms hall kept (f 2 ∷ [])) ≡ firstRows
+kept-undivided : sweptOn Plus (replicate 5 (f 0)) (sideTerms hall kept v) ≡ firstRows
 unfolding ofInt ofBits gather gatherN folded firstIn endIn blockColumns offsetOf landing landings landed joined sideTerms add mul eq
 kept-undivided = refl
 
-elims-undivided : sweptOn Minus firstRows (sideTerms hall elims (f 3 ∷ f 5 ∷ [])) ≡ ofInt binary64 (negsuc 0) ∷ f 1 ∷ f 0 ∷ ofInt binary64 (negsuc 3) ∷ f 3 ∷ []
+elims-undivided : sweptOn Minus firstRows (sideTerms hall elims u) ≡ lastRows
 unfolding ofInt ofBits gather gatherN folded firstIn endIn blockColumns offsetOf landing landings landed joined sideTerms add sub mul eq
 elims-undivided = refl
 
-pub kept-rows : sweptOn Plus (replicate 5 (f 0)) (orderTerms hall keptLists (f 2 ∷ []) order) ≡ firstRows
-kept-rows = rows-of-order hall kept elims false 2 keptLists kept-planned Plus (replicate 5 (f 0)) refl (f 2 ∷ []) order (rw kept-accepted) ∙ kept-undivided
+pub kept-rows : sweptOn Plus (replicate 5 (f 0)) (orderTerms hall keptLists v order) ≡ firstRows
+kept-rows = rows-of-order hall kept elims false 2 keptLists kept-planned Plus (replicate 5 (f 0)) refl v order (rw kept-accepted) ∙ kept-undivided
 
-pub elims-rows : sweptOn Minus firstRows (orderTerms hall elimsLists (f 3 ∷ f 5 ∷ []) order) ≡ ofInt binary64 (negsuc 0) ∷ f 1 ∷ f 0 ∷ ofInt binary64 (negsuc 3) ∷ f 3 ∷ []
-elims-rows = rows-of-order hall kept elims true 2 elimsLists elims-planned Minus firstRows refl (f 3 ∷ f 5 ∷ []) order (rw elims-accepted) ∙ elims-undivided
+pub elims-rows : sweptOn Minus firstRows (orderTerms hall elimsLists u order) ≡ lastRows
+elims-rows = rows-of-order hall kept elims true 2 elimsLists elims-planned Minus firstRows refl u order (rw elims-accepted) ∙ elims-undivided
 
 -- of the whole calls: both sweeps pass, and so their steps in that order leave the same rows
-kept-sweep : sweepTold₁₄ false hall kept elims 2 (replicate 3 0) (f 2 ∷ []) keptLists (replicate 5 (f 0)) (replicate 3 0) order ≡ done
+kept-sweep : sweepTold₁₄ false hall kept elims 2 (replicate 3 0) v keptLists (replicate 5 (f 0)) (replicate 3 0) order ≡ done
 unfolding firstN first gatherN gather onPass pairBad pairsTold firstIn endIn tooBig falls badShape rowBad rowFalls columnBad badRow checked blockColumns offsetOf tooMany isOdd listsTold emptySide blockClaims placeOf claimBad walkTold gapTold chunkTold chunkCount inChunk entryOut spanBad chunkBad startsBad planBad badPlan spanCount served hasNext placeBad chunkLeft badOrder
 kept-sweep = refl
 
-elims-sweep : sweepTold₁₄ true hall kept elims 2 (replicate 3 0) (f 3 ∷ f 5 ∷ []) elimsLists firstRows (replicate 3 0) order ≡ done
+elims-sweep : sweepTold₁₄ true hall kept elims 2 (replicate 3 0) u elimsLists firstRows (replicate 3 0) order ≡ done
 unfolding firstN first gatherN gather onPass pairBad pairsTold firstIn endIn tooBig falls badShape rowBad rowFalls columnBad badRow checked blockColumns offsetOf tooMany isOdd listsTold emptySide blockClaims placeOf claimBad walkTold gapTold chunkTold chunkCount inChunk entryOut spanBad chunkBad startsBad planBad badPlan spanCount served hasNext placeBad chunkLeft badOrder
 elims-sweep = refl
 
-pub kept-steps : stepsOf false hall kept elims 2 (replicate 3 0) (f 2 ∷ []) keptLists (replicate 5 (f 0)) order 3 .rows ≡ firstRows
+pub kept-steps : stepsOf false hall kept elims 2 (replicate 3 0) v keptLists (replicate 5 (f 0)) order 3 .rows ≡ firstRows
 unfolding ofInt ofBits
-kept-steps = steps-undivided false hall kept elims 2 (replicate 3 0) (f 2 ∷ []) keptLists (replicate 5 (f 0)) (replicate 3 0) order kept-sweep kept-planned ∙ kept-undivided
+kept-steps = steps-undivided false hall kept elims 2 (replicate 3 0) v keptLists (replicate 5 (f 0)) (replicate 3 0) order kept-sweep kept-planned ∙ kept-undivided
 
-pub elims-steps : stepsOf true hall kept elims 2 (replicate 3 0) (f 3 ∷ f 5 ∷ []) elimsLists firstRows order 3 .rows
-    ≡ ofInt binary64 (negsuc 0) ∷ f 1 ∷ f 0 ∷ ofInt binary64 (negsuc 3) ∷ f 3 ∷ []
-elims-steps = steps-undivided true hall kept elims 2 (replicate 3 0) (f 3 ∷ f 5 ∷ []) elimsLists firstRows (replicate 3 0) order elims-sweep elims-planned ∙ elims-undivided
+pub elims-steps : stepsOf true hall kept elims 2 (replicate 3 0) u elimsLists firstRows order 3 .rows ≡ lastRows
+elims-steps = steps-undivided true hall kept elims 2 (replicate 3 0) u elimsLists firstRows (replicate 3 0) order elims-sweep elims-planned ∙ elims-undivided
 
 -- ---- the plan's law and the operator's speak of it too
 
--- buffers of just the room that it needs
-abbrev lent : Buffers
-lent = buffers (replicate 3 0) (replicate 3 0) (replicate 3 0) (replicate 3 0) (replicate 5 0) (replicate 5 0) (replicate 3 0) (replicate 8 0) (replicate 2 0) (replicate 4 0) (replicate 8 0) (replicate 8 0) (replicate 8 0) (replicate 4 0) (replicate 8 0) (replicate 8 0) (replicate 8 0)
-
-hall-room : Passes (noRoom (room hall kept elims 2 lent))
+-- lent buffers of just the room that it needs
+hall-room : Passes (noRoom (room hall kept elims 2 unusedBuffers))
 unfolding firstN first pairBad pairsTold chunkCount room
 hall-room = refl
 
-pub hall-sound : Sound hall kept elims 2 lent
-hall-sound = record { keeps = hall-keep .keeps; parted = hall-keep .parted; some-len = omega arith; few-len = omega arith; roomy = room-right (room hall kept elims 2 lent) hall-room }
+pub hall-sound : Sound hall kept elims 2 unusedBuffers
+hall-sound = record { keeps = hall-keep .keeps; parted = hall-keep .parted; some-len = omega arith; few-len = omega arith; roomy = room-right (room hall kept elims 2 unusedBuffers) hall-room }
 
 hall-apart : connectedTold (sideEntries hall elims) .number ≡ 0
 unfolding firstN first gatherN gather firstIn endIn entryAt columnEntries blockEntries holder clashes connectedTold
@@ -158,43 +133,36 @@ pub hall-unconnected : Connects hall elims → ⊥
 hall-unconnected c = let q = connects-told hall elims c in let z = hall-apart in omega arith
 
 -- so its lists are what planning leaves, cut to their used parts, and over them the operator is document 01's sums without spans
-pub hall-left : (e : Bool) → SidePlanned hall kept elims e 2 (cut 3 (length (sideSpans hall (sideOf e kept elims) 2)) (listsOf e (planLeft hall kept elims 2 lent)))
+pub hall-left : (e : Bool) → SidePlanned hall kept elims e 2 (cut 3 (length (sideSpans hall (sideOf e kept elims) 2)) (listsOf e (planLeft hall kept elims 2 unusedBuffers)))
 unfolding chunkCount
-hall-left e = left-planned hall kept elims 2 lent hall-sound hall-unconnected e
+hall-left e = left-planned hall kept elims 2 unusedBuffers hall-sound hall-unconnected e
 
 pub hall-operator : (v inverses d : List Float) → operated hall kept elims (record { v = v; inverses = inverses; d = d; kept = keptLists; elims = elimsLists }) ≡ plainOperated hall kept elims v inverses d
 hall-operator v inverses d = operator-plain hall kept elims 2 (record { v = v; inverses = inverses; d = d; kept = keptLists; elims = elimsLists }) kept-planned elims-planned
 
 -- case 3: rows, t, u and out, and out with damping 0.5
-abbrev inverses : List Float
-inverses = ofBits binary64 0x3FE0_0000_0000_0000 ∷ ofBits binary64 0x3FD0_0000_0000_0000 ∷ []
-
-abbrev minus : ℕ → Float
-minus n = ofInt binary64 (negsuc n)
-
-plain-case : plainOperated hall kept elims (f 2 ∷ []) inverses [] ≡ record { rows = minus 0 ∷ f 1 ∷ f 0 ∷ minus 3 ∷ f 3 ∷ []; t = f 6 ∷ f 20 ∷ []; u = f 3 ∷ f 5 ∷ []; out = f 1 ∷ [] }
+plain-case : plainOperated hall kept elims v (half ∷ quarter ∷ []) [] ≡ record { rows = lastRows; t = t; u = u; out = f 1 ∷ [] }
 unfolding ofInt ofBits neg add sub mul eq firstN first gatherN gather folded firstIn endIn blockColumns offsetOf addTerm joined landed entryTerm landing landings squareOf squaresBefore entryPlace inverseTerm inverseEntry inverseBlock sideTerms sideGather dampTerm keptSum plainOperated
 plain-case = refl
 
-damped-case : plainOperated hall kept elims (f 2 ∷ []) inverses (ofBits binary64 0x3FE0_0000_0000_0000 ∷ []) .out ≡ f 2 ∷ []
+damped-case : plainOperated hall kept elims v (half ∷ quarter ∷ []) (half ∷ []) .out ≡ f 2 ∷ []
 unfolding ofInt ofBits neg add sub mul eq firstN first gatherN gather folded firstIn endIn blockColumns offsetOf addTerm joined landed entryTerm landing landings squareOf squaresBefore entryPlace inverseTerm inverseEntry inverseBlock sideTerms sideGather dampTerm keptSum plainOperated
 damped-case = refl
 
-pub case-three : operated hall kept elims (record { v = f 2 ∷ []; inverses = inverses; d = []; kept = keptLists; elims = elimsLists })
-    ≡ record { rows = minus 0 ∷ f 1 ∷ f 0 ∷ minus 3 ∷ f 3 ∷ []; t = f 6 ∷ f 20 ∷ []; u = f 3 ∷ f 5 ∷ []; out = f 1 ∷ [] }
-case-three = hall-operator (f 2 ∷ []) inverses [] ∙ plain-case
+pub case-three : operated hall kept elims (operands []) ≡ record { rows = lastRows; t = t; u = u; out = f 1 ∷ [] }
+case-three = hall-operator v (half ∷ quarter ∷ []) [] ∙ plain-case
 
-pub case-three-damped : operated hall kept elims (record { v = f 2 ∷ []; inverses = inverses; d = ofBits binary64 0x3FE0_0000_0000_0000 ∷ []; kept = keptLists; elims = elimsLists }) .out ≡ f 2 ∷ []
-case-three-damped = ap (λ (w : Work). w .out) (hall-operator (f 2 ∷ []) inverses (ofBits binary64 0x3FE0_0000_0000_0000 ∷ [])) ∙ damped-case
+pub case-three-damped : operated hall kept elims (operands (half ∷ [])) .out ≡ f 2 ∷ []
+case-three-damped = ap (λ (w : Work). w .out) (hall-operator v (half ∷ quarter ∷ []) (half ∷ [])) ∙ damped-case
 
 -- ---- what theorem 8 asks holds of it
 
--- lent this, `plan` answers 0 with three spans a side
-pub hall-told : planTold hall kept elims 2 lent ≡ tell 0 (3 ∷ 3 ∷ [])
+-- unusedBuffers this, `plan` answers 0 with three spans a side
+pub hall-told : planTold hall kept elims 2 unusedBuffers ≡ tell 0 (3 ∷ 3 ∷ [])
 unfolding first firstN gather gatherN firstIn endIn blockColumns offsetOf chunkCount inChunk placeIn pastLast columnSpan localSpans
-hall-told = unconnected-planned hall kept elims 2 lent hall-sound hall-unconnected
+hall-told = unconnected-planned hall kept elims 2 unusedBuffers hall-sound hall-unconnected
 
-pub hall-answer : (κs : Lfts 22) (a : _) (t : _) (q : plan.Planned) → planning.Post κs a q t → planColumns κs a ≡ hall → planKept κs a ≡ kept → planElims κs a ≡ elims → planLen κs a ≡ 2 → planLent κs a ≡ lent
+pub hall-answer : (κs : Lfts 22) (a : _) (t : _) (q : plan.Planned) → planning.Post κs a q t → planColumns κs a ≡ hall → planKept κs a ≡ kept → planElims κs a ≡ elims → planLen κs a ≡ 2 → planLent κs a ≡ unusedBuffers
     → toldPlan q ≡ tell 0 (3 ∷ 3 ∷ [])
 hall-answer κs a t q post m k e l b =
     plan-tells κs a t q post
@@ -206,11 +174,11 @@ hall-answer κs a t q post m k e l b =
     ∙ hall-told
 
 -- the sweeps' and the operator's vectors and buffers fit, and the order serves each chunk as often as it has spans, on either side
-pub kept-fits : SweepFits hall kept 2 (replicate 3 0) (f 2 ∷ []) (replicate 5 (f 0)) (replicate 3 0)
+pub kept-fits : SweepFits hall kept 2 (replicate 3 0) v (replicate 5 (f 0)) (replicate 3 0)
 unfolding gather gatherN blockColumns offsetOf chunkCount
 kept-fits = record { map-fits = le-refl 3; v-fits = refl; rows-fit = refl; progress-fits = refl }
 
-pub elims-fits : SweepFits hall elims 2 (replicate 3 0) (f 3 ∷ f 5 ∷ []) firstRows (replicate 3 0)
+pub elims-fits : SweepFits hall elims 2 (replicate 3 0) u firstRows (replicate 3 0)
 unfolding gather gatherN blockColumns offsetOf chunkCount
 elims-fits = record { map-fits = le-refl 3; v-fits = refl; rows-fit = refl; progress-fits = refl }
 
@@ -220,7 +188,6 @@ kept-serves = accepted-serves (chunkCount 5 2) keptLists order (rw kept-accepted
 pub elims-serves : Serves (chunkCount 5 2) elimsLists order
 elims-serves = accepted-serves (chunkCount 5 2) elimsLists order (rw elims-accepted)
 
-pub operator-fits : OperatorFits hall kept elims (replicate 3 0) (record { v = f 2 ∷ []; inverses = inverses; d = []; kept = keptLists; elims = elimsLists })
-    (record { rows = replicate 5 (f 0); t = replicate 2 (f 0); u = replicate 2 (f 0); out = replicate 1 (f 0) })
+pub operator-fits : OperatorFits hall kept elims unusedMap (operands []) unusedWork
 unfolding gather gatherN blockColumns offsetOf squareOf squaresBefore dampLength
 operator-fits = record { map-fits = le-refl 3; v-fits = refl; inverses-fit = refl; d-fits = refl; rows-fit = refl; t-fits = refl; u-fits = refl; out-fits = refl }
