@@ -3,7 +3,7 @@
 use super::checks::*;
 use super::{check_partition, done, Checked, Refusal};
 use crate::answer::Answer;
-use crate::case::{Call, OwnColumns};
+use crate::case::{Call, OwnColumns, OwnSides};
 use crate::input::{Damping, Side};
 
 /// The products of two columns' values at their common rows, ascending, from +0.0.
@@ -189,6 +189,18 @@ fn check_plan(columns: &OwnColumns, blocks: &[u32], chunk: u64, spans: &Spans, s
     Ok(())
 }
 
+/// 11 and 13 of a sweep and of a step, with the lengths of v, rows and progress. How many chunks there are.
+#[rustfmt::skip]
+fn check_side(side: Side, columns: &OwnColumns, sides: &OwnSides, chunk: u64, spans: &Spans, lengths: [usize; 3]) -> Result<u64, Refusal> {
+    let (number, blocks) = match side { Side::Kept => (0, &sides.kept), Side::Eliminated => (1, &sides.eliminated) };
+    let chunks = columns.nrows.div_ceil(chunk);
+    let [v, rows, progress] = lengths;
+    let [s, l, h, n] = spans.lengths(chunks);
+    check_lengths(&[(v, dof(blocks)), s, l, h, n, (rows, columns.nrows), (progress, chunks)])?;
+    check_plan(columns, blocks, chunk, spans, number)?;
+    Ok(chunks)
+}
+
 /// Does one span of a side: the kept side adds, the eliminated one subtracts.
 fn do_span(side: Side, columns: &OwnColumns, spans: &Spans, span: usize, v: &[f64], rows: &mut [f64]) {
     let x = v[spans.local[span] as usize];
@@ -206,11 +218,7 @@ pub fn sweep(call: &mut Call) -> Result<Answer, Refusal> {
     };
     check_partition(columns, sides, map.len(), Some(*chunk))?;
     let spans = Spans { starts, lo, hi, local };
-    let (number, blocks) = match side { Side::Kept => (0, &sides.kept), Side::Eliminated => (1, &sides.eliminated) };
-    let chunks = columns.nrows.div_ceil(*chunk);
-    let [s, l, h, n] = spans.lengths(chunks);
-    check_lengths(&[(v.len(), dof(blocks)), s, l, h, n, (rows.len(), columns.nrows), (progress.len(), chunks)])?;
-    check_plan(columns, blocks, *chunk, &spans, number)?;
+    let chunks = check_side(*side, columns, sides, *chunk, &spans, [v.len(), rows.len(), progress.len()])?;
     // the whole order is tested before anything is done
     let mut left: Vec<u32> = (0..chunks as usize).map(|c| spans.count(c)).collect();
     for (place, c) in order.iter().enumerate() {
@@ -242,11 +250,7 @@ pub fn step(call: &mut Call) -> Result<Answer, Refusal> {
     };
     check_partition(columns, sides, map.len(), Some(*chunk))?;
     let spans = Spans { starts, lo, hi, local };
-    let (number, blocks) = match side { Side::Kept => (0, &sides.kept), Side::Eliminated => (1, &sides.eliminated) };
-    let chunks = columns.nrows.div_ceil(*chunk);
-    let [s, l, h, n] = spans.lengths(chunks);
-    check_lengths(&[(v.len(), dof(blocks)), s, l, h, n, (rows.len(), columns.nrows), (progress.len(), chunks)])?;
-    check_plan(columns, blocks, *chunk, &spans, number)?;
+    let chunks = check_side(*side, columns, sides, *chunk, &spans, [v.len(), rows.len(), progress.len()])?;
     if *chunk_number >= chunks {
         return Err(Refusal(14, vec![0]));
     }
