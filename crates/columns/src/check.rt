@@ -13,7 +13,7 @@ ghost use lib.ListN.{length};
 ghost use Rattle.ground.specs.First.{first, some};
 ghost use Rattle.columns.specs.Refusals.{told};
 ghost use Rattle.columns.specs.Columns.{columnsOf, tooBig, falls, badShape, rowFalls, rowBad, badRow, checked, Shaped};
-ghost use Rattle.columns.specs.Unchecked.{RunThere};
+ghost use Rattle.columns.specs.Unchecked.{ColumnThere, RunThere};
 ghost use Rattle.columns.specs.Rises.{bitOf, count, rowRises, beginsLow, endsHigh, allRise, RisesFit};
 
 const MOST_ROWS: usize = 1_048_576;
@@ -44,18 +44,25 @@ fn too_big(nrows: usize, ncolumns: usize, entries: usize) -> bool
     entries > MOST_ENTRIES
 }
 
-// The first pointer that is above the one after it, or the number of columns.
-fn first_fall(ptrs: &[u32]) -> usize
+// Whether the pointer after j is below that at j.
+fn pointer_falls(ptrs: &[u32], j: usize) -> bool
+    requires { ⌜ ColumnThere (length (now ptrs)) j ⌝ }
+    ensures { λ r. ⌜ r ≡ falls (now (ptrs .entry)) j ⌝ }
+{
+    ptrs[j + 1] < ptrs[j]
+}
+
+// Whether a pointer is below the one before it. It looks at all of them, without a branch, so that the compiler can take several at a time.
+fn some_pointer_falls(ptrs: &[u32]) -> bool
     requires { ⌜ 0 < length (now ptrs) ⌝ }
-    ensures { λ r. ⌜ r ≡ first (falls (now (ptrs .entry))) 0 (length (now (ptrs .entry)) - 1) ⌝ }
+    ensures { λ r. ⌜ r ≡ some (falls (now (ptrs .entry))) 0 (length (now (ptrs .entry)) - 1) ⌝ }
 {
     let last = ptrs.len() - 1;
+    let mut bad = false;
     for j in 0..last {
-        if ptrs[j + 1] < ptrs[j] {
-            return j;
-        }
+        bad = bad | pointer_falls(ptrs, j);
     }
-    last
+    bad
 }
 
 fn bad_shape(ptrs: &[u32], entries: usize, nvalues: usize) -> bool
@@ -67,10 +74,10 @@ fn bad_shape(ptrs: &[u32], entries: usize, nvalues: usize) -> bool
     if ptrs[0] != 0 {
         return true;
     }
-    let last = ptrs.len() - 1;
-    if first_fall(ptrs) < last {
+    if some_pointer_falls(ptrs) {
         return true;
     }
+    let last = ptrs.len() - 1;
     if wide(ptrs[last]) != entries {
         return true;
     }
