@@ -91,7 +91,8 @@ shape-ok m s =
 -- ---- places
 
 module _ {m : Columns} (s : Shaped m) where
-  rising : (i d : ℕ) → i + d ≤ columnCount m → getD (m .ptrs) i 0 ≤ getD (m .ptrs) (i + d) 0
+  -- pointers do not fall
+  pub rising : (i d : ℕ) → i + d ≤ columnCount m → getD (m .ptrs) i 0 ≤ getD (m .ptrs) (i + d) 0
   rising i zero l = le-of-eq (ap (λ (n : ℕ). getD (m .ptrs) n 0) (omega arith))
   rising i (suc d) l =
       let e : i + d + 1 ≡ i + suc d = omega arith in

@@ -16,13 +16,9 @@ use Rattle.columns.specs.Columns.{falls, rowFalls, rowBad}
 
 -- ---- the pointers
 
-pub falls-at : (ptrs : List ℕ) (j : ℕ) → getD ptrs (j + 1) 0 < getD ptrs j 0 → falls ptrs j ≡ true
+pub pointers-read : (ptrs : List ℕ) (j : ℕ) → ltb (getD ptrs (j + 1) 0) (getD ptrs j 0) ≡ falls ptrs j
 unfolding falls
-falls-at ptrs j h = lt-ltb _ _ h
-
-pub rises-at : (ptrs : List ℕ) (j : ℕ) → getD ptrs j 0 ≤ getD ptrs (j + 1) 0 → falls ptrs j ≡ false
-unfolding falls
-rises-at ptrs j h = le-ltb _ _ h
+pointers-read ptrs j = refl
 
 -- ---- the rows
 
@@ -134,4 +130,4 @@ module _ (n k : ℕ) (exact : Bool) (pairs : List ℕ) (e : k ≡ badPair exact 
   unfolding pairsTold
   pairs-done l = rw (← e, le-ltb k (length pairs / 2) l)
 
-pub ruleset checking = (searches, column-empty, column-high, column-falls, falls-read, or-of, falls-at, rises-at, least-first, least-next, row-told, pair-short, pair-long, pair-fine, pair-told, pairs-done)
+pub ruleset checking = (searches, column-empty, column-high, column-falls, falls-read, or-of, pointers-read, least-first, least-next, row-told, pair-short, pair-long, pair-fine, pair-told, pairs-done)

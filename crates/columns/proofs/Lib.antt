@@ -5,6 +5,7 @@ pub mod SumLaws
 pub mod CallLaws
 mod ReaderLaws
 mod CheckRules
+mod RiseLaws
 mod MergeLaws
 mod Rules
 mod Determined

@@ -3,5 +3,6 @@ pub mod Lengths
 pub mod Columns
 pub mod Sums
 pub mod Unchecked
+pub mod Rises
 pub mod Reader
 pub mod JacobianOps

@@ -7,13 +7,14 @@ use crate::unchecked::first_place;
 use ground::wide;
 ghost use mathlib.Core.Path.{_≡_};
 ghost use mathlib.Core.Bool.{_||_};
-ghost use Prim.Native.Nat.{_+_, _-_, _<_};
+ghost use Prim.Native.Nat.{_+_, _-_, _<_, _≤_};
 ghost use lib.Dec.{leb, ltb};
 ghost use lib.ListN.{length};
 ghost use Rattle.ground.specs.First.{first, some};
 ghost use Rattle.columns.specs.Refusals.{told};
 ghost use Rattle.columns.specs.Columns.{columnsOf, tooBig, falls, badShape, rowFalls, rowBad, badRow, checked, Shaped};
-ghost use Rattle.columns.specs.Unchecked.{RunThere};
+ghost use Rattle.columns.specs.Unchecked.{ColumnThere, RunThere};
+ghost use Rattle.columns.specs.Rises.{bitOf, count, rowRises, beginsLow, endsHigh, allRise, RisesFit};
 
 const MOST_ROWS: usize = 1_048_576;
 
@@ -43,18 +44,25 @@ fn too_big(nrows: usize, ncolumns: usize, entries: usize) -> bool
     entries > MOST_ENTRIES
 }
 
-// The first pointer that is above the one after it, or the number of columns.
-fn first_fall(ptrs: &[u32]) -> usize
+// Whether the pointer after j is below that at j.
+fn pointer_falls(ptrs: &[u32], j: usize) -> bool
+    requires { ⌜ ColumnThere (length (now ptrs)) j ⌝ }
+    ensures { λ r. ⌜ r ≡ falls (now (ptrs .entry)) j ⌝ }
+{
+    ptrs[j + 1] < ptrs[j]
+}
+
+// Whether a pointer is below the one before it. It looks at all of them, without a branch, so that the compiler can take several at a time.
+fn some_pointer_falls(ptrs: &[u32]) -> bool
     requires { ⌜ 0 < length (now ptrs) ⌝ }
-    ensures { λ r. ⌜ r ≡ first (falls (now (ptrs .entry))) 0 (length (now (ptrs .entry)) - 1) ⌝ }
+    ensures { λ r. ⌜ r ≡ some (falls (now (ptrs .entry))) 0 (length (now (ptrs .entry)) - 1) ⌝ }
 {
     let last = ptrs.len() - 1;
+    let mut bad = false;
     for j in 0..last {
-        if ptrs[j + 1] < ptrs[j] {
-            return j;
-        }
+        bad = bad | pointer_falls(ptrs, j);
     }
-    last
+    bad
 }
 
 fn bad_shape(ptrs: &[u32], entries: usize, nvalues: usize) -> bool
@@ -66,10 +74,10 @@ fn bad_shape(ptrs: &[u32], entries: usize, nvalues: usize) -> bool
     if ptrs[0] != 0 {
         return true;
     }
-    let last = ptrs.len() - 1;
-    if first_fall(ptrs) < last {
+    if some_pointer_falls(ptrs) {
         return true;
     }
+    let last = ptrs.len() - 1;
     if wide(ptrs[last]) != entries {
         return true;
     }
@@ -159,6 +167,79 @@ fn bad_row(nrows: usize, ptrs: &[u32], rows: &[u32], values: &[f64]) -> Answer
     Answer::Done
 }
 
+// 1 for true, 0 for false.
+fn bit(b: bool) -> u32
+    ensures { λ r. ⌜ r ≡ bitOf b ⌝ }
+    ensures { λ r. ⌜ r ≤ 1 ⌝ }
+{
+    b as u32
+}
+
+// Whether the row at place p is above the one before it.
+fn row_rises(rows: &[u32], p: usize) -> bool
+    requires { ⌜ RunThere (length (now rows)) p (p + 1) ⌝ }
+    requires { ⌜ 0 < p ⌝ }
+    ensures { λ r. ⌜ r ≡ rowRises (now (rows .entry)) p ⌝ }
+{
+    rows[p - 1] < rows[p]
+}
+
+// How many rows are above the one before them. There is no branch, so that the compiler can take several at a time.
+fn count_rises(rows: &[u32]) -> u32
+    requires { ⌜ length (now rows) ≤ 16_777_216 ⌝ }
+    ensures { λ r. ⌜ r ≡ count (rowRises (now (rows .entry))) 1 (length (now (rows .entry))) ⌝ }
+{
+    let mut n: u32 = 0;
+    for p in 1..rows.len() {
+        n = n + bit(row_rises(rows, p));
+    }
+    n
+}
+
+// Whether a column has entries, and its first row is not above the one before it, or is the first of all.
+fn begins_low(rows: &[u32], from: usize, to: usize) -> bool
+    requires { ⌜ RunThere (length (now rows)) from to ⌝ }
+    ensures { λ r. ⌜ r ≡ beginsLow (now (rows .entry)) from to ⌝ }
+{
+    if to <= from {
+        return false;
+    }
+    if from == 0 {
+        return true;
+    }
+    row_falls(rows, from)
+}
+
+// Whether a column has entries, and its last row is too large.
+fn ends_high(nrows: usize, rows: &[u32], from: usize, to: usize) -> bool
+    requires { ⌜ RunThere (length (now rows)) from to ⌝ }
+    ensures { λ r. ⌜ r ≡ endsHigh nrows (now (rows .entry)) from to ⌝ }
+{
+    if to <= from {
+        return false;
+    }
+    nrows <= wide(rows[to - 1])
+}
+
+// Whether all rows are good, by one pass over them, however short the columns: each is above the one before it or begins a column. It finds
+// no bad place.
+fn all_rise(nrows: usize, ptrs: &[u32], rows: &[u32]) -> bool
+    requires { ⌜ RisesFit (now ptrs) (now rows) ⌝ }
+    ensures { λ r. ⌜ r ≡ allRise nrows (now (ptrs .entry)) (now (rows .entry)) ⌝ }
+{
+    let n = column_count(ptrs);
+    let mut seen = count_rises(rows);
+    for j in 0..n {
+        let from = first_place(ptrs, j);
+        let to = end_place(ptrs, j);
+        if ends_high(nrows, rows, from, to) {
+            return false;
+        }
+        seen = seen + bit(begins_low(rows, from, to));
+    }
+    wide(seen) == rows.len()
+}
+
 // Whether the columns keep the rules: the first rule that is broken.
 pub fn check_columns(nrows: usize, ptrs: &[u32], rows: &[u32], values: &[f64]) -> Answer
     ensures { λ r. ⌜ told r ≡ checked (columnsOf nrows (now (ptrs .entry)) (now (rows .entry)) (now (values .entry))) ⌝ }
@@ -168,6 +249,9 @@ pub fn check_columns(nrows: usize, ptrs: &[u32], rows: &[u32], values: &[f64]) -
     }
     if bad_shape(ptrs, rows.len(), values.len()) {
         return Answer::Refused(Refusal::BadShape);
+    }
+    if all_rise(nrows, ptrs, rows) {
+        return Answer::Done;
     }
     bad_row(nrows, ptrs, rows, values)
 }
