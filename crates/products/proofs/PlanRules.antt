@@ -3,7 +3,7 @@
 use mathlib.Core.Path.{_≡_, refl, sym, ap, _∙_, subst}
 use mathlib.Core.Bool.{Bool, true, false, not, _&&_, _||_}
 use mathlib.Core.List.{List, [], _∷_}
-use Prim.Native.Nat.{ℕ, zero, suc, _+_, _-_, _*_, _≤_, _<_}
+use Prim.Native.Nat.{ℕ, zero, suc, _+_, _-_, _*_, _%_, _^_, _≤_, _<_}
 use native.Mathlib.Nat.{le-trans, le-of-eq, mul-le-mul, le-refl}
 use native.Mathlib.Decide.{decLt}
 use native.Mathlib.Omega.{arith}
@@ -11,8 +11,8 @@ use lib.Dec.{eqb, leb, ltb}
 use lib.ListN.{length, getD}
 use borrow.Author.Needs.{needs}
 use borrow.Author.Tests.{lt-ltb, le-ltb, le-leb, lt-leb, eq-eqb, ne-eqb, ltb-true, ltb-false, leb-true, leb-false, eqb-true, not-false}
-use Rattle.ground.specs.First.{first, some}
-use Rattle.ground.proofs.FirstLaws.{by-call, past-none, none-past, first-same, some-at, some-none, some-turn, some-done, some-goes, some-stops, some-ends}
+use Rattle.ground.specs.First.{first, some, None}
+use Rattle.ground.proofs.FirstLaws.{by-call, first-turn, first-stop, first-none, first-low, first-before, first-bad, past-none, none-past, first-same, some-at, some-none, some-turn, some-done, some-goes, some-stops, some-ends}
 use Rattle.columns.specs.Refusals.{tell, done}
 use Rattle.columns.specs.Columns.{Columns, firstIn, endIn, falls}
 use Rattle.columns.proofs.CheckLaws.{or-false}
@@ -20,20 +20,116 @@ use Rattle.blocks.proofs.LookupRules.{and-true}
 use Rattle.plan.specs.Spans.{inChunk, Spread}
 use Rattle.products.specs.Orders.{entryOut, spanBad, chunkBad, startsBad, planBad}
 use Rattle.products.specs.Side.{sideNumber}
-use Rattle.products.specs.PlanCheck.{rowsOnly, rowOut, inColumn, spanOut, spanOutAt, startsOut, planTold, Risen, SomeThere, StartsThere, SpansThere, ChunkThere, ChunksThere, PlanThere}
+use Rattle.products.specs.PlanCheck.{rowsOnly, rowOut, endsOut, inColumn, spanOut, spanOutAt, spanStops, spanStopsAt, startsOut, planTold, Risen, Window, SomeThere, FewThere, StartsThere, SpansThere, ChunkThere, ChunksThere, PlanThere}
 
 pub or-of : (b t u : Bool) → t ≡ u → (b || t) ≡ (b || u)
 or-of b t u e = rw e
+
+or-none : (b : Bool) → (b || false) ≡ b
+or-none true = refl
+or-none false = refl
 
 or-true : (b : Bool) → (b || true) ≡ true
 or-true true = refl
 or-true false = refl
 
+-- ---- places
+
+module _ (bad : ℕ → Bool) where
+  -- places before k, where the test holds at none, may be left out
+  some-from : (lo k hi : ℕ) → lo ≤ k → None bad lo k → some bad k hi ≡ some bad lo hi
+  some-from lo k hi l none = go (some bad k hi) refl
+    where
+      go : (b : Bool) → some bad k hi ≡ b → some bad k hi ≡ some bad lo hi
+      go true e =
+          let h = ltb-true (first bad k hi) hi e in
+          e ∙ sym (some-at bad lo hi (first bad k hi) (le-trans l (first-low bad k hi)) h (first-bad bad k hi h))
+      go false e = e ∙ sym (none-past bad lo hi (λ i p q. at i (decLt i k) p q))
+        where
+          at : (i : ℕ) → Dec (i < k) → lo ≤ i → i < hi → bad i ≡ false
+          at i (yes h) p q = none i p h
+          at i (no h) p q = past-none bad k hi e i (omega arith) q
+
+  -- the first and the last place, and those between them
+  some-ends-of : (a b : ℕ) → a < b → some bad a b ≡ ((bad a || bad (b - 1)) || some bad (a + 1) (b - 1))
+  some-ends-of a b h = go (bad a) refl (bad (b - 1)) refl (some bad (a + 1) (b - 1)) refl
+    where
+      go : (s : Bool) → bad a ≡ s → (t : Bool) → bad (b - 1) ≡ t → (u : Bool) → some bad (a + 1) (b - 1) ≡ u → some bad a b ≡ ((s || t) || u)
+      go true e t f u g = some-at bad a b a (omega arith) h e
+      go false e true f u g = some-at bad a b (b - 1) (omega arith) (omega arith) f
+      go false e false f true g =
+          let q = ltb-true (first bad (a + 1) (b - 1)) (b - 1) g in
+          some-at bad a b (first bad (a + 1) (b - 1)) (omega (arith, first-low bad (a + 1) (b - 1))) (omega arith) (first-bad bad (a + 1) (b - 1) q)
+      go false e false f false g = none-past bad a b (λ i p q. at i (decLt a i) (decLt i (b - 1)) p q)
+        where
+          at : (i : ℕ) → Dec (a < i) → Dec (i < b - 1) → a ≤ i → i < b → bad i ≡ false
+          at i (yes l) (yes m) p q = past-none bad (a + 1) (b - 1) g i (omega arith) m
+          at i (yes l) (no m) p q = let z : i ≡ b - 1 = omega arith in rw z f
+          at i (no l) m p q = let z : i ≡ a = omega arith in rw z e
+
 -- ---- entries and spans
 
-pub row-is-out : (rows : List ℕ) (from end p : ℕ) → (ltb (getD rows p 0) from || leb end (getD rows p 0)) ≡ rowOut rows from end p
+-- r is what the code subtracted, which wraps where the row is below `from`
+pub row-is-out : (rows : List ℕ) (from size p r : ℕ) → Window from size → r < 2 ^ 32 → (r + from) % 2 ^ 32 ≡ getD rows p 0
+    → leb size r ≡ rowOut rows from (from + size) p
 unfolding rowOut
-row-is-out rows from end p = refl
+row-is-out rows from size p r w h e = go (decLt (r + from) (2 ^ 32))
+  where
+    go : Dec (r + from < 2 ^ 32) → leb size r ≡ (ltb (getD rows p 0) from || leb (from + size) (getD rows p 0))
+    go (yes q) =
+        let z : getD rows p 0 ≡ r + from = omega (arith, e) in
+        rw (le-ltb (getD rows p 0) from (omega arith)) (at (decLt r size) z)
+      where
+        at : Dec (r < size) → getD rows p 0 ≡ r + from → leb size r ≡ leb (from + size) (getD rows p 0)
+        at (yes g) z = rw (lt-leb size r g, lt-leb (from + size) (getD rows p 0) (omega arith))
+        at (no g) z = rw (le-leb size r (omega arith), le-leb (from + size) (getD rows p 0) (omega arith))
+    go (no q) =
+        let z : getD rows p 0 + 2 ^ 32 ≡ r + from = omega (arith, e) in
+        rw (lt-ltb (getD rows p 0) from (omega arith)) (le-leb size r (omega (arith, w .small)))
+
+pub ends-are-out : (rows : List ℕ) (from end a b : ℕ) (t : Bool) → t ≡ rowOut rows from end a → t ≡ true → true ≡ endsOut rows from end a b
+unfolding endsOut
+ends-are-out rows from end a b t e q = rw (← e, q)
+
+pub last-is-out : (rows : List ℕ) (from end a b : ℕ) (t u : Bool) → t ≡ rowOut rows from end a → t ≡ false → u ≡ rowOut rows from end (b - 1) → u ≡ endsOut rows from end a b
+unfolding endsOut
+last-is-out rows from end a b t u e q f = rw (← e, q) f
+
+-- of n places, a few, the first and the last pair by pair: t, u and v are what `ends_out` answered
+module _ (rows : List ℕ) (from end n a b : ℕ) (there : SomeThere (length rows) a b) (t : Bool) (e : t ≡ endsOut rows from end a b) where
+  ends-of : some (rowOut rows from end) a b ≡ (endsOut rows from end a b || some (rowOut rows from end) (a + 1) (b - 1))
+  unfolding endsOut
+  ends-of = some-ends-of (rowOut rows from end) a b (there .some)
+
+  pub few-first : t ≡ true → true ≡ some (rowOut rows from end) a b
+  few-first q = rw (ends-of, ← e, q)
+
+  module _ (q : t ≡ false) (c : FewThere n a b) where
+    few-rest : some (rowOut rows from end) a b ≡ some (rowOut rows from end) (a + 1) (b - 1)
+    few-rest = rw (ends-of, ← e, q)
+
+    pub few-two : n ≤ 2 → false ≡ some (rowOut rows from end) a b
+    few-two h = rw few-rest (sym (some-none (rowOut rows from end) (a + 1) (b - 1) (omega (arith, c .count))))
+
+    module _ (u : Bool) (h : 2 < n) (f : u ≡ endsOut rows from end (a + 1) (b - 1)) where
+      second-of : some (rowOut rows from end) a b ≡ (u || some (rowOut rows from end) (a + 2) (b - 2))
+      unfolding endsOut
+      second-of =
+          let x : a + 1 + 1 ≡ a + 2 = omega arith in
+          let y : b - 1 - 1 ≡ b - 2 = omega arith in
+          few-rest ∙ some-ends-of (rowOut rows from end) (a + 1) (b - 1) (omega (arith, c .count)) ∙ rw (f, x, y)
+
+      pub few-second : u ≡ true → true ≡ some (rowOut rows from end) a b
+      few-second p = rw (second-of, p)
+
+      module _ (p : u ≡ false) where
+        pub few-four : n ≤ 4 → false ≡ some (rowOut rows from end) a b
+        few-four l = rw (second-of, p) (sym (some-none (rowOut rows from end) (a + 2) (b - 2) (omega (arith, c .count))))
+
+        pub few-six : (v : Bool) → 4 < n → v ≡ endsOut rows from end (a + 2) (b - 2) → v ≡ some (rowOut rows from end) a b
+        unfolding endsOut
+        few-six v l g =
+            rw (second-of, p, some-ends-of (rowOut rows from end) (a + 2) (b - 2) (omega (arith, c .count)), some-none (rowOut rows from end) (a + 2 + 1) (b - 2 - 1) (omega (arith, c .count, c .few)), ← g) (sym (or-none v))
 
 module _ (ptrs : List ℕ) (j a b : ℕ) where
   -- n is how many columns there are, first where column j begins, and end where it ends, as the code read them
@@ -122,6 +218,58 @@ module _ (rows : List ℕ) (from end dof a b l : ℕ) where
   unfolding spanOut
   span-rows t h q p e = rw (le-ltb b a h, le-ltb (length rows) b q, lt-leb dof l p) e
 
+  -- a span that stops the pass over those of a few entries: t is what `few_out` answered
+  pub stops-back : b ≤ a → true ≡ spanStops rows from end dof a b l
+  unfolding spanStops
+  stops-back h = rw (le-leb b a h)
+
+  pub stops-many : a < b → 6 < b - a → true ≡ spanStops rows from end dof a b l
+  unfolding spanStops
+  stops-many h m = rw (lt-leb b a h, lt-ltb 6 (b - a) m)
+
+  module _ (h : a < b) (m : b - a ≤ 6) where
+    stops-few : spanOut rows from end dof a b l ≡ spanStops rows from end dof a b l
+    unfolding spanStops
+    stops-few = rw (lt-leb b a h, le-ltb 6 (b - a) m)
+
+    pub stops-past : (w : ℕ) → w ≡ b → length rows < w → true ≡ spanStops rows from end dof a b l
+    stops-past w e q = span-past (omega arith) (rw e at q) ∙ stops-few
+
+    pub stops-local : (w v : ℕ) → w ≡ b → w ≤ length rows → v ≡ l → dof ≤ v → true ≡ spanStops rows from end dof a b l
+    stops-local w v e q f p = span-local (omega arith) (rw e at q) (rw f at p) ∙ stops-few
+
+    pub stops-rows : (t : Bool) (w v x y : ℕ) → w ≡ b → w ≤ length rows → v ≡ l → v < dof → x ≡ a → y ≡ b → t ≡ some (rowOut rows from end) x y → t ≡ spanStops rows from end dof a b l
+    stops-rows t w v x y e q f p i j g = span-rows t (omega arith) (rw e at q) (rw f at p) (rw (i, j) at g) ∙ stops-few
+
+-- the pass over spans of a few entries leaves out good ones alone
+module _ (rows : List ℕ) (from end dof : ℕ) (lo hi local : List ℕ) where
+  stops-bad : (k : ℕ) → spanStopsAt rows from end dof lo hi local k ≡ false → spanOutAt rows from end dof lo hi local k ≡ false
+  unfolding spanStopsAt spanStops spanOutAt
+  stops-bad k e =
+      let a = getD lo k 0 in
+      let b = getD hi k 0 in
+      let bad = spanOut rows from end dof a b (getD local k 0) in
+      or-false (ltb 6 (b - a)) bad (or-false (leb b a) (ltb 6 (b - a) || bad) e .1) .1
+
+  pub few-passed : (at k last : ℕ) (z : Bool) → k ≡ first (spanStopsAt rows from end dof lo hi local) at last → some (spanOutAt rows from end dof lo hi local) at last ≡ z
+      → some (spanOutAt rows from end dof lo hi local) k last ≡ z
+  few-passed at k last z e inv =
+      rw e (some-from (spanOutAt rows from end dof lo hi local) at (first (spanStopsAt rows from end dof lo hi local) at last) last (first-low (spanStopsAt rows from end dof lo hi local) at last) (λ i p q. stops-bad i (first-before (spanStopsAt rows from end dof lo hi local) at last i p q)))
+      ∙ inv
+
+  -- and goes on
+  pub few-goes : (k i last : ℕ) → k < last → i ≡ first (spanStopsAt rows from end dof lo hi local) (k + 1) last → last - i < last - k
+  few-goes k i last h e = omega (arith, first-low (spanStopsAt rows from end dof lo hi local) (k + 1) last, e)
+
+  -- t is what `span_stops` answered
+  pub stops-told : (k : ℕ) (t z : Bool) → t ≡ spanStops rows from end dof (getD lo k 0) (getD hi k 0) (getD local k 0) → t ≡ z → spanStopsAt rows from end dof lo hi local k ≡ z
+  unfolding spanStopsAt
+  stops-told k t z e u = sym e ∙ u
+
+-- all of them are passed
+pub pass-ends : (bad : ℕ → Bool) {k hi z : ℕ} → hi ≤ k → first bad k hi ≡ z → k ≡ z
+pass-ends bad {k} {hi} h inv = sym (first-none bad k hi h) ∙ inv
+
 -- a, b and l are what the code read, and t what `span_bad` answered
 pub span-told : (rows : List ℕ) (from end dof : ℕ) (lo hi local : List ℕ) (k a b l : ℕ) (t z : Bool) → a ≡ getD lo k 0 → b ≡ getD hi k 0 → l ≡ getD local k 0
     → t ≡ spanOut rows from end dof a b l → t ≡ z → spanOutAt rows from end dof lo hi local k ≡ z
@@ -153,6 +301,9 @@ module _ (rows : List ℕ) (len c : ℕ) where
     unfolding chunkBad
     chunk-told first last t p q e =
         e ∙ rw (p, q, first-same (spanOutAt rows (c * len) (c * len + len) dof (s .lo) (s .hi) (s .local)) (spanBad (rowsOnly rows) dof len s c) (getD (s .starts) c 0) (getD (s .starts) (c + 1) 0) (λ k _ _. span-is-bad k))
+
+pub chunk-window : (len : ℕ) (starts : List ℕ) (nlo nhi nlocal c : ℕ) → ChunkThere len starts nlo nhi nlocal c → Window (c * len) len
+chunk-window len starts nlo nhi nlocal c h = record { small = h .small }
 
 pub chunk-spans : (len : ℕ) (starts : List ℕ) (nlo nhi nlocal c last : ℕ) → ChunkThere len starts nlo nhi nlocal c → last ≡ getD starts (c + 1) 0 → SpansThere nlo nhi nlocal last
 chunk-spans len starts nlo nhi nlocal c last h e = rw e (h .spans)
@@ -263,6 +414,9 @@ module _ (e : Bool) (m : Columns) (dof len chunks : ℕ) (s : Spread) (t : Bool)
 pub ruleset planning = (
   needs,
   by-call,
+  first-turn,
+  first-stop,
+  pass-ends,
   some-goes,
   some-stops,
   some-ends,
@@ -270,6 +424,22 @@ pub ruleset planning = (
   some-done,
   or-of,
   row-is-out,
+  ends-are-out,
+  last-is-out,
+  few-first,
+  few-two,
+  few-second,
+  few-four,
+  few-six,
+  stops-back,
+  stops-many,
+  stops-past,
+  stops-local,
+  stops-rows,
+  stops-told,
+  few-passed,
+  few-goes,
+  chunk-window,
   column-none,
   column-low,
   column-high,

@@ -19,6 +19,10 @@ rowsOnly rows = columnsOf 0 [] rows []
 unfoldable pub rowOut : List ℕ → ℕ → ℕ → ℕ → Bool
 rowOut rows from end p = ltb (getD rows p 0) from || leb end (getD rows p 0)
 
+-- so is the first or the last of places a up to b
+unfoldable pub endsOut : List ℕ → ℕ → ℕ → ℕ → ℕ → Bool
+endsOut rows from end a b = rowOut rows from end a || rowOut rows from end (b - 1)
+
 -- places a up to b lie in column j
 unfoldable pub inColumn : List ℕ → ℕ → ℕ → ℕ → Bool
 inColumn ptrs j a b = ltb j (length ptrs - 1) && (leb (firstIn ptrs j) a && leb b (endIn ptrs j))
@@ -29,6 +33,13 @@ spanOut rows from end dof a b l = ltb b a || (ltb (length rows) b || (leb dof l 
 
 unfoldable pub spanOutAt : List ℕ → ℕ → ℕ → ℕ → List ℕ → List ℕ → List ℕ → ℕ → Bool
 spanOutAt rows from end dof lo hi local k = spanOut rows from end dof (getD lo k 0) (getD hi k 0) (getD local k 0)
+
+-- a span is bad, or has no entry, or more than six; span k of a list is or has
+unfoldable pub spanStops : List ℕ → ℕ → ℕ → ℕ → ℕ → ℕ → ℕ → Bool
+spanStops rows from end dof a b l = leb b a || (ltb 6 (b - a) || spanOut rows from end dof a b l)
+
+unfoldable pub spanStopsAt : List ℕ → ℕ → ℕ → ℕ → List ℕ → List ℕ → List ℕ → ℕ → Bool
+spanStopsAt rows from end dof lo hi local k = spanStops rows from end dof (getD lo k 0) (getD hi k 0) (getD local k 0)
 
 -- the starts do not rise from 0 to n without falling
 unfoldable pub startsOut : ℕ → List ℕ → ℕ → Bool
@@ -44,10 +55,19 @@ planTold e m dof len chunks s = cond (planBad m dof len chunks s) (tell 13 (cond
 pub record Risen (ptrs rows : List ℕ) : Type 0 where
   pub rise : (j p q : ℕ) → j < length ptrs - 1 → firstIn ptrs j ≤ p → p < q → q < endIn ptrs j → getD rows p 0 < getD rows q 0
 
+-- the rows that a chunk may have end at a list number
+pub record Window (from size : ℕ) : Type 0 where
+  pub small : from + size ≤ 4_294_967_295
+
 -- places a up to b are there, and there is one
 pub record SomeThere (n a b : ℕ) : Type 0 where
   pub some : a < b
   pub there : b ≤ n
+
+-- places a up to b are n, six or fewer
+pub record FewThere (n a b : ℕ) : Type 0 where
+  pub count : n ≡ b - a
+  pub few : n ≤ 6
 
 -- n starts are one for each chunk, and one more
 pub record StartsThere (n chunks : ℕ) : Type 0 where

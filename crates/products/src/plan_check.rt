@@ -1,6 +1,7 @@
-// Refusal 13: a plan as it is lent. Its spans are looked at chunk by chunk, so a chunk's first row and its end are found once for all of them.
-// Rows rise along a column, so a span that lies in one column is told by its first and its last row. Its column is guessed, from the span before
-// or by halves, and the guess is tested: a span that crosses columns, as a plan from elsewhere may have, is looked at entry by entry.
+// Refusal 13: a plan as it is lent. Its spans are looked at chunk by chunk, so a chunk's first row and its size are found once for all of them.
+// Most spans have a few entries: they are looked at from both ends, in a loop of its own. Rows rise along a column, so a longer span that lies in
+// one column is told by its first and its last row. Its column is guessed, from the span before or by halves, and the guess is tested: a span that
+// crosses columns, as a plan from elsewhere may have, is looked at entry by entry.
 use crate::side::Side;
 use crate::side::side_number;
 use columns::check::column_count;
@@ -9,61 +10,75 @@ use columns::refusal::Refusal;
 use columns::unchecked::end_place;
 use columns::unchecked::first_place;
 use ground::wide;
+use std::num::wrapping_sub_u32;
 ghost use mathlib.Core.Path.{_≡_};
 ghost use Prim.Native.Nat.{_+_};
 ghost use lib.ListN.{length};
-ghost use Rattle.ground.specs.First.{some};
+ghost use Rattle.ground.specs.First.{first, some};
 ghost use Rattle.columns.specs.Refusals.{told};
 ghost use Rattle.columns.specs.Columns.{falls};
 ghost use Rattle.columns.specs.Unchecked.{RunThere};
 ghost use Rattle.products.specs.Orders.{chunkBad};
 ghost use Rattle.products.specs.Side.{eliminated};
-ghost use Rattle.products.specs.PlanCheck.{startsOut, rowsOnly, rowOut, inColumn, spanOut, spanOutAt, planTold, Risen, SomeThere, StartsThere, SpansThere, ChunkThere, ChunksThere, PlanThere};
+ghost use Rattle.products.specs.PlanCheck.{startsOut, rowsOnly, rowOut, endsOut, inColumn, spanOut, spanOutAt, spanStops, spanStopsAt, planTold, Risen, Window, SomeThere, FewThere, StartsThere, SpansThere, ChunkThere, ChunksThere, PlanThere};
 
-// Whether the row at place p is below `from`, or `end` or more.
-fn row_out(rows: &[u32], from: u32, end: u32, p: usize) -> bool
+// Whether the row at place p is below `from`, or past the `size` rows from there on: one comparison, since what is below `from` wraps.
+fn row_out(rows: &[u32], from: u32, size: u32, p: usize) -> bool
+    requires { ⌜ Window from size ⌝ }
     requires { ⌜ RunThere (length (now rows)) p (p + 1) ⌝ }
-    ensures { λ r. ⌜ r ≡ rowOut (now (rows .entry)) from end p ⌝ }
+    ensures { λ r. ⌜ r ≡ rowOut (now (rows .entry)) from (from + size) p ⌝ }
 {
-    let row = rows[p];
-    (row < from) | (end <= row)
+    size <= wrapping_sub_u32(rows[p], from)
 }
 
 // Whether one of places lo up to hi is. It looks at all of them, without a branch, so that the compiler can take several at a time.
-fn some_row_out(rows: &[u32], from: u32, end: u32, lo: usize, hi: usize) -> bool
+fn some_row_out(rows: &[u32], from: u32, size: u32, lo: usize, hi: usize) -> bool
+    requires { ⌜ Window from size ⌝ }
     requires { ⌜ RunThere (length (now rows)) lo hi ⌝ }
-    ensures { λ r. ⌜ r ≡ some (rowOut (now (rows .entry)) from end) lo hi ⌝ }
+    ensures { λ r. ⌜ r ≡ some (rowOut (now (rows .entry)) from (from + size)) lo hi ⌝ }
 {
     let mut bad = false;
     for p in lo..hi {
-        bad = bad | row_out(rows, from, end, p);
+        bad = bad | row_out(rows, from, size, p);
     }
     bad
 }
 
-// How many columns after the one before are tried before they are halved.
-const NEXT_FEW: usize = 16;
-
-// A span of fewer entries is looked at entry by entry: to find its column costs more.
-const FEW_ENTRIES: usize = 6;
-
-// From column j on, the last of a few columns that begins at place a or before it.
-fn next_column(ptrs: &[u32], j: usize, a: usize) -> usize {
-    let n = column_count(ptrs);
-    if n <= j {
-        return 0;
+// Whether the first or the last of places a up to b is.
+fn ends_out(rows: &[u32], from: u32, size: u32, a: usize, b: usize) -> bool
+    requires { ⌜ Window from size ⌝ }
+    requires { ⌜ SomeThere (length (now rows)) a b ⌝ }
+    ensures { λ r. ⌜ r ≡ endsOut (now (rows .entry)) from (from + size) a b ⌝ }
+{
+    if row_out(rows, from, size, a) {
+        return true;
     }
-    let mut at = j;
-    for _ in 0..NEXT_FEW {
-        if n <= at + 1 {
-            return at;
-        }
-        if a < first_place(ptrs, at + 1) {
-            return at;
-        }
-        at = at + 1;
+    row_out(rows, from, size, b - 1)
+}
+
+// A span of no more entries is looked at from both ends: to find its column costs more.
+const FEW_ENTRIES: u32 = 6;
+
+// Whether one of places a up to b is, of which there are n, a few: pair by pair from both ends, without a loop.
+fn few_out(rows: &[u32], from: u32, size: u32, n: u32, a: usize, b: usize) -> bool
+    requires { ⌜ Window from size ⌝ }
+    requires { ⌜ SomeThere (length (now rows)) a b ⌝ }
+    requires { ⌜ FewThere n a b ⌝ }
+    ensures { λ r. ⌜ r ≡ some (rowOut (now (rows .entry)) from (from + size)) a b ⌝ }
+{
+    if ends_out(rows, from, size, a, b) {
+        return true;
     }
-    at
+    if n <= 2 {
+        return false;
+    }
+    if ends_out(rows, from, size, a + 1, b - 1) {
+        return true;
+    }
+    if n <= 4 {
+        return false;
+    }
+    ends_out(rows, from, size, a + 2, b - 2)
 }
 
 // The last column that begins at place a or before it, by halves.
@@ -81,6 +96,31 @@ fn find_column(ptrs: &[u32], a: usize) -> usize {
     low
 }
 
+// How many columns after the one before are tried before they are halved.
+const NEXT_FEW: usize = 16;
+
+// A column to try for a span from place a on, after column j: the last that begins there or before. Nothing rests on it but time.
+fn guess_column(ptrs: &[u32], j: usize, a: usize) -> usize {
+    let n = column_count(ptrs);
+    if n <= j {
+        return find_column(ptrs, a);
+    }
+    if a < first_place(ptrs, j) {
+        return find_column(ptrs, a);
+    }
+    let mut at = j;
+    for _ in 0..NEXT_FEW {
+        if n <= at + 1 {
+            return at;
+        }
+        if a < first_place(ptrs, at + 1) {
+            return at;
+        }
+        at = at + 1;
+    }
+    find_column(ptrs, a)
+}
+
 // Whether places a up to b lie in column j.
 fn in_column(ptrs: &[u32], j: usize, a: usize, b: usize) -> bool
     ensures { λ r. ⌜ r ≡ inColumn (now (ptrs .entry)) j a b ⌝ }
@@ -94,42 +134,26 @@ fn in_column(ptrs: &[u32], j: usize, a: usize, b: usize) -> bool
     b <= end_place(ptrs, j)
 }
 
-// A column to try for places a up to b, after column j. Nothing rests on it but time.
-fn guess_column(ptrs: &[u32], j: usize, a: usize, b: usize) -> usize {
-    if b <= a {
-        return j;
-    }
-    if b - a < FEW_ENTRIES {
-        return j;
-    }
-    let next = next_column(ptrs, j, a);
-    if in_column(ptrs, next, a, b) {
-        return next;
-    }
-    find_column(ptrs, a)
-}
-
-// Whether one of places a up to b has a row out of `from` up to `end`: by the first and the last where they lie in column j.
-fn rows_out(ptrs: &[u32], rows: &[u32], from: u32, end: u32, j: usize, a: usize, b: usize) -> bool
+// Whether one of places a up to b has a row out of the `size` rows from `from` on: by the first and the last where they lie in column j.
+fn rows_out(ptrs: &[u32], rows: &[u32], from: u32, size: u32, j: usize, a: usize, b: usize) -> bool
     requires { ⌜ Risen (now ptrs) (now rows) ⌝ }
+    requires { ⌜ Window from size ⌝ }
     requires { ⌜ SomeThere (length (now rows)) a b ⌝ }
-    ensures { λ r. ⌜ r ≡ some (rowOut (now (rows .entry)) from end) a b ⌝ }
+    ensures { λ r. ⌜ r ≡ some (rowOut (now (rows .entry)) from (from + size)) a b ⌝ }
 {
-    if b - a < FEW_ENTRIES {
-        return some_row_out(rows, from, end, a, b);
-    }
     if in_column(ptrs, j, a, b) {
+        let end = from + size;
         return (rows[a] < from) | (end <= rows[b - 1]);
     }
-    some_row_out(rows, from, end, a, b)
+    some_row_out(rows, from, size, a, b)
 }
 
-// Whether a span from a to b with local number l is bad, in the chunk of rows `from` up to `end`; j is the column to try.
+// Whether a span from a to b with local number l is bad, in the chunk of `size` rows from `from` on; j is the column to try.
 fn span_bad(
     ptrs: &[u32],
     rows: &[u32],
     from: u32,
-    end: u32,
+    size: u32,
     dof: usize,
     j: usize,
     a: usize,
@@ -137,7 +161,8 @@ fn span_bad(
     l: usize,
 ) -> bool
     requires { ⌜ Risen (now ptrs) (now rows) ⌝ }
-    ensures { λ r. ⌜ r ≡ spanOut (now (rows .entry)) from end dof a b l ⌝ }
+    requires { ⌜ Window from size ⌝ }
+    ensures { λ r. ⌜ r ≡ spanOut (now (rows .entry)) from (from + size) dof a b l ⌝ }
 {
     if b < a {
         return true;
@@ -151,15 +176,61 @@ fn span_bad(
     if b <= a {
         return false;
     }
-    rows_out(ptrs, rows, from, end, j, a, b)
+    rows_out(ptrs, rows, from, size, j, a, b)
 }
 
-// Whether one of spans `first` up to `last` is.
+// Whether a span from a to b with local number l is bad, or has not a few entries.
+fn span_stops(rows: &[u32], from: u32, size: u32, dof: usize, a: u32, b: u32, l: u32) -> bool
+    requires { ⌜ Window from size ⌝ }
+    ensures { λ r. ⌜ r ≡ spanStops (now (rows .entry)) from (from + size) dof a b l ⌝ }
+{
+    if b <= a {
+        return true;
+    }
+    if FEW_ENTRIES < b - a {
+        return true;
+    }
+    if rows.len() < wide(b) {
+        return true;
+    }
+    if dof <= wide(l) {
+        return true;
+    }
+    few_out(rows, from, size, b - a, wide(a), wide(b))
+}
+
+// The first of spans `at` up to `last` that is bad or has not a few entries. Good spans of a few, most of them, are passed in this small loop.
+fn pass_few(
+    rows: &[u32],
+    from: u32,
+    size: u32,
+    dof: usize,
+    lo: &[u32],
+    hi: &[u32],
+    local: &[u32],
+    at: usize,
+    last: usize,
+) -> usize
+    requires { ⌜ Window from size ⌝ }
+    requires { ⌜ SpansThere (length (now lo)) (length (now hi)) (length (now local)) last ⌝ }
+    ensures { λ r. ⌜ r ≡ first (spanStopsAt (now (rows .entry)) from (from + size) dof (now (lo .entry)) (now (hi .entry)) (now (local .entry))) at last ⌝ }
+{
+    let mut k = at;
+    while k < last {
+        if span_stops(rows, from, size, dof, lo[k], hi[k], local[k]) {
+            return k;
+        }
+        k += 1;
+    }
+    k
+}
+
+// Whether one of spans `first` up to `last` is bad.
 fn some_span_bad(
     ptrs: &[u32],
     rows: &[u32],
     from: u32,
-    end: u32,
+    size: u32,
     dof: usize,
     lo: &[u32],
     hi: &[u32],
@@ -168,18 +239,21 @@ fn some_span_bad(
     last: usize,
 ) -> bool
     requires { ⌜ Risen (now ptrs) (now rows) ⌝ }
+    requires { ⌜ Window from size ⌝ }
     requires { ⌜ SpansThere (length (now lo)) (length (now hi)) (length (now local)) last ⌝ }
-    ensures { λ r. ⌜ r ≡ some (spanOutAt (now (rows .entry)) from end dof (now (lo .entry)) (now (hi .entry)) (now (local .entry))) first last ⌝ }
+    ensures { λ r. ⌜ r ≡ some (spanOutAt (now (rows .entry)) from (from + size) dof (now (lo .entry)) (now (hi .entry)) (now (local .entry))) first last ⌝ }
 {
     let mut j: usize = 0;
-    for k in first..last {
+    let mut k = pass_few(rows, from, size, dof, lo, hi, local, first, last);
+    while k < last {
         let a = wide(lo[k]);
         let b = wide(hi[k]);
         let l = wide(local[k]);
-        j = guess_column(ptrs, j, a, b);
-        if span_bad(ptrs, rows, from, end, dof, j, a, b, l) {
+        j = guess_column(ptrs, j, a);
+        if span_bad(ptrs, rows, from, size, dof, j, a, b, l) {
             return true;
         }
+        k = pass_few(rows, from, size, dof, lo, hi, local, k + 1, last);
     }
     false
 }
@@ -201,14 +275,13 @@ fn chunk_bad(
     ensures { λ r. ⌜ r ≡ chunkBad (rowsOnly (now (rows .entry))) dof len (record { starts = now (starts .entry); lo = now (lo .entry); hi = now (hi .entry); local = now (local .entry) }) c ⌝ }
 {
     let from = c * len;
-    let end = from + len;
     let first = wide(starts[c]);
     let last = wide(starts[c + 1]);
     some_span_bad(
         ptrs,
         rows,
         from as u32,
-        end as u32,
+        len as u32,
         dof,
         lo,
         hi,

@@ -6,6 +6,6 @@ use Rattle.products.proofs.plan_check.chunk_bad.Tie as tie
 pub chunk-bad-spec : {M : Type 1} → statement M
 chunk-bad-spec =
     tie.close (tie.spec
-    (λ c. search planning) (λ c. search planning) (λ c. search planning) (λ c. search planning) (λ c κs. search planning)
     (λ c. search planning) (λ c. search planning) (λ c. search planning) (λ c κs. search planning) (λ c. search planning)
-    (λ c. search planning) (λ c κs. search planning) (λ c. search planning))
+    (λ c. search planning) (λ c. search planning) (λ c κs. search planning) (λ c. search planning) (λ c. search planning)
+    (λ c κs. search planning) (λ c. search planning))

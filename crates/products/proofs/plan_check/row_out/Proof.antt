@@ -6,4 +6,4 @@ use Rattle.products.proofs.plan_check.row_out.Tie as tie
 pub row-out-spec : {M : Type 1} → statement M
 row-out-spec =
     tie.close (tie.spec
-    (λ c. search planning) (λ c. search planning) (λ c. search planning))
+    (λ c. search planning) (λ c. search planning) (λ c κs. search planning) (λ c. search planning))
