@@ -69,6 +69,14 @@ module _ (inverses t : List Float) (dof from at : ℕ) where
     pub rows-done : r ≤ dof → dof ≤ r → writing (at + dof) out ≡ z
     rows-done l h = let e : r ≡ dof = le-antisymm l h in rw (← e) (fold-done put (blockRow inverses t dof from at) h inv)
 
+-- a block of which the dof is told apart
+pub told-fits : (inverses t dof d from at n : ℕ) → dof ≡ d → RowsFit inverses t dof from at n → RowsFit inverses t d from at n
+told-fits inverses t dof d from at n e f = rw (← e) f
+
+pub told-rows : (inverses t : List Float) (dof d from at : ℕ) (out next : List Float) → dof ≡ d → writing (at + d) next ≡ folded put (writing at out) (gather (blockRow inverses t d from at) 0 d)
+    → writing (at + dof) next ≡ folded put (writing at out) (gather (blockRow inverses t dof from at) 0 dof)
+told-rows inverses t dof d from at out next e w = rw e w
+
 -- ---- all blocks: from and at are where block b's inverse and its entries begin
 
 module _ (elims : List ℕ) (inverses t : List Float) where
@@ -115,4 +123,4 @@ module _ (elims : List ℕ) (b from at dof : ℕ) (q : from ≡ squaresBefore el
     room = rw (e, f .room) (places-in elims b at dof s d l);
   }
 
-pub ruleset inverting = (loops, term-entry, term-fits, term-added, term-place, row-fits, row-room, rows-start, rows-turn, rows-done, first-place, squares-first, inverses-done, rows-fit)
+pub ruleset inverting = (loops, term-entry, term-fits, term-added, term-place, row-fits, row-room, rows-start, rows-turn, rows-done, told-fits, told-rows, first-place, squares-first, inverses-done, rows-fit)

@@ -153,6 +153,18 @@ fn inverse_rows(inverses: &[f64], t: &[f64], dof: usize, from: usize, at: usize,
     }
 }
 
+// The same; a block of three, the dof of a point, is told apart so that the compiler writes its rows out without a loop.
+fn inverse_block(inverses: &[f64], t: &[f64], dof: usize, from: usize, at: usize, out: &mut [f64])
+    requires { ⌜ RowsFit (length (now inverses)) (length (now t)) dof from at (length (now out)) ⌝ }
+    ensures { λ _. ⌜ writing (at + dof) (now (out .exit)) ≡ folded put (writing at (now (out .entry))) (gather (blockRow (now (inverses .entry)) (now (t .entry)) dof from at) 0 dof) ⌝ }
+{
+    if dof == 3 {
+        inverse_rows(inverses, t, 3, from, at, out);
+        return;
+    }
+    inverse_rows(inverses, t, dof, from, at, out);
+}
+
 // Each block's inverse times its entries of t, block after block.
 pub(crate) fn inverse_times(elims: &[u32], inverses: &[f64], t: &[f64], out: &mut [f64])
     requires { ⌜ InversesFit (now elims) (length (now inverses)) (length (now t)) (length (now out)) ⌝ }
@@ -163,7 +175,7 @@ pub(crate) fn inverse_times(elims: &[u32], inverses: &[f64], t: &[f64], out: &mu
     let mut at: usize = 0;
     for b in 0..count {
         let dof = wide(elims[b + b + 1]);
-        inverse_rows(inverses, t, dof, from, at, out);
+        inverse_block(inverses, t, dof, from, at, out);
         from = from + dof * dof;
         at = at + dof;
     }

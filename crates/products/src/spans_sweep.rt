@@ -9,7 +9,8 @@ ghost use Rattle.columns.specs.Sums.{sweptOn};
 ghost use Rattle.products.specs.Orders.{spanTerms};
 ghost use Rattle.products.specs.OrderWalk.{entriesOnly, spansOnly, SpanFits, SpansFit};
 
-// Span k: its entries, taken with the vector's entry at its local number.
+// Span k: its entries, taken with the vector's entry at its local number. A span of two, the most frequent where chunks are many, is told apart so
+// that the compiler writes it out without a loop.
 pub(crate) fn do_span(
     sign: Sign,
     rows: &[u32],
@@ -27,6 +28,10 @@ pub(crate) fn do_span(
     let l = wide(local[k]);
     let a = wide(lo[k]);
     let b = wide(hi[k]);
+    if b == a + 2 {
+        sweep_entries(sign, rows, values, v[l], a, a + 2, y);
+        return;
+    }
     sweep_entries(sign, rows, values, v[l], a, b, y);
 }
 

@@ -51,7 +51,7 @@ loop-again c =
     let w = k .before .before in
     let t = w .before .before in
     let l = t .before in
-    (next-place _ _ _ _ (l .loop .inv .0) (w .wide .ensures .0), squares-after _ _ _ _ (l .loop .inv .1) (w .wide .ensures .0), search inverting, inverses-turn _ _ _ _ _ _ _ (l .loop .inv .1) (l .loop .inv .0) (w .wide .ensures .0) _ _ _ _ (t .loop-test .taken) (l .loop .inv .3) (k .inverse-rows .ensures))
+    (next-place _ _ _ _ (l .loop .inv .0) (w .wide .ensures .0), squares-after _ _ _ _ (l .loop .inv .1) (w .wide .ensures .0), search inverting, inverses-turn _ _ _ _ _ _ _ (l .loop .inv .1) (l .loop .inv .0) (w .wide .ensures .0) _ _ _ _ (t .loop-test .taken) (l .loop .inv .3) (k .inverse-block .ensures))
 
 pub inverse-times-spec : {M : Type 1} → statement M
 inverse-times-spec =
