@@ -97,14 +97,32 @@ fn find_column(ptrs: &[u32], a: usize) -> usize {
     low
 }
 
+// Whether places a up to b lie in column j.
+fn in_column(ptrs: &[u32], j: usize, a: usize, b: usize) -> bool
+    ensures { λ r. ⌜ r ≡ inColumn (now (ptrs .entry)) j a b ⌝ }
+{
+    if column_count(ptrs) <= j {
+        return false;
+    }
+    if a < first_place(ptrs, j) {
+        return false;
+    }
+    b <= end_place(ptrs, j)
+}
+
 // How many columns after the one before are tried before they are halved.
 const NEXT_FEW: usize = 16;
 
-// A column to try for a span from place a on, after column j: the last that begins there or before. Nothing rests on it but time.
-fn guess_column(ptrs: &[u32], j: usize, a: usize) -> usize {
+// A column to try for a span from a to b, after column j: mostly the next one, else the last that begins at a or before. Nothing rests on it but
+// time.
+fn guess_column(ptrs: &[u32], j: usize, a: usize, b: usize) -> usize {
     let n = column_count(ptrs);
     if n <= j {
         return find_column(ptrs, a);
+    }
+    let next = j + 1;
+    if in_column(ptrs, next, a, b) {
+        return next;
     }
     if a < first_place(ptrs, j) {
         return find_column(ptrs, a);
@@ -120,19 +138,6 @@ fn guess_column(ptrs: &[u32], j: usize, a: usize) -> usize {
         at = at + 1;
     }
     find_column(ptrs, a)
-}
-
-// Whether places a up to b lie in column j.
-fn in_column(ptrs: &[u32], j: usize, a: usize, b: usize) -> bool
-    ensures { λ r. ⌜ r ≡ inColumn (now (ptrs .entry)) j a b ⌝ }
-{
-    if column_count(ptrs) <= j {
-        return false;
-    }
-    if a < first_place(ptrs, j) {
-        return false;
-    }
-    b <= end_place(ptrs, j)
 }
 
 // Whether one of places a up to b has a row out of the `size` rows from `from` on: by the first and the last where they lie in column j.
@@ -212,7 +217,7 @@ fn some_rows_out(
     while k < last {
         let a = wide(lo[k]);
         let b = wide(hi[k]);
-        j = guess_column(ptrs, j, a);
+        j = guess_column(ptrs, j, a, b);
         if rows_out(ptrs, rows, from, size, j, a, b) {
             return true;
         }
