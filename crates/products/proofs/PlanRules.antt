@@ -1,7 +1,7 @@
 -- What the functions of src/plan_check.rt show: a lemma for each way that they return, and that looking at each chunk's spans by its first row
 -- and its end is what the definitions say. Assumes nothing.
 use mathlib.Core.Path.{_≡_, refl, sym, ap, _∙_, subst}
-use mathlib.Core.Bool.{Bool, true, false, not, _&&_, _||_}
+use mathlib.Core.Bool.{Bool, true, false, not, _&&_, _||_, cond}
 use mathlib.Core.List.{List, [], _∷_}
 use Prim.Native.Nat.{ℕ, zero, suc, _+_, _-_, _*_, _%_, _^_, _≤_, _<_}
 use native.Mathlib.Nat.{le-trans, le-of-eq, mul-le-mul, le-refl}
@@ -15,12 +15,13 @@ use Rattle.ground.specs.First.{first, some, None}
 use Rattle.ground.proofs.FirstLaws.{by-call, first-turn, first-stop, first-none, first-low, first-before, first-bad, past-none, none-past, first-same, some-at, some-none, some-turn, some-done, some-goes, some-stops, some-ends}
 use Rattle.columns.specs.Refusals.{tell, done}
 use Rattle.columns.specs.Columns.{Columns, firstIn, endIn, falls}
+use Rattle.columns.specs.Unchecked.{RunThere}
 use Rattle.columns.proofs.CheckLaws.{or-false}
 use Rattle.blocks.proofs.LookupRules.{and-true}
 use Rattle.plan.specs.Spans.{inChunk, Spread}
 use Rattle.products.specs.Orders.{entryOut, spanBad, chunkBad, startsBad, planBad}
 use Rattle.products.specs.Side.{sideNumber}
-use Rattle.products.specs.PlanCheck.{rowsOnly, rowOut, endsOut, inColumn, spanOut, spanOutAt, spanStops, spanStopsAt, startsOut, planTold, Risen, Window, SomeThere, FewThere, StartsThere, SpansThere, ChunkThere, ChunksThere, PlanThere}
+use Rattle.products.specs.PlanCheck.{rowsOnly, rowOut, endsOut, inColumn, narrowed, shapeOut, shapeOutAt, rowsOutAt, rowsStop, rowsStopAt, spanOut, spanOutAt, startsOut, planTold, Risen, Window, SomeThere, FewThere, RunsThere, StartsThere, SpansThere, ChunkThere, ChunksThere, PlanThere}
 
 pub or-of : (b t u : Bool) → t ≡ u → (b || t) ≡ (b || u)
 or-of b t u e = rw e
@@ -194,87 +195,175 @@ module _ (ptrs rows : List ℕ) (from end j a b : ℕ) (risen : Risen ptrs rows)
   ends-by false false e q = sym (none-out e q)
 
 -- t is what `in_column` answered
-pub ends-out : (ptrs rows : List ℕ) (from end j a b : ℕ) (t : Bool) → Risen ptrs rows → SomeThere (length rows) a b → t ≡ inColumn ptrs j a b → t ≡ true
+pub ends-out : (ptrs rows : List ℕ) (from end j a b : ℕ) (t : Bool) → Risen ptrs rows → RunThere (length rows) a b → a < b → t ≡ inColumn ptrs j a b → t ≡ true
     → (ltb (getD rows a 0) from || leb end (getD rows (b - 1) 0)) ≡ some (rowOut rows from end) a b
-ends-out ptrs rows from end j a b t risen there e q = ends-by ptrs rows from end j a b risen there (within-of ptrs j a b (sym e ∙ q)) (ltb (getD rows a 0) from) (leb end (getD rows (b - 1) 0)) refl refl
+ends-out ptrs rows from end j a b t risen there h e q = ends-by ptrs rows from end j a b risen (record { some = h; there = there .inside }) (within-of ptrs j a b (sym e ∙ q)) (ltb (getD rows a 0) from) (leb end (getD rows (b - 1) 0)) refl refl
 
 pub no-rows-out : (rows : List ℕ) (from end a b : ℕ) → b ≤ a → false ≡ some (rowOut rows from end) a b
 no-rows-out rows from end a b h = sym (some-none (rowOut rows from end) a b h)
 
-module _ (rows : List ℕ) (from end dof a b l : ℕ) where
-  pub span-back : b < a → true ≡ spanOut rows from end dof a b l
-  unfolding spanOut
-  span-back h = rw (lt-ltb b a h)
+-- ---- spans of a few entries
 
-  pub span-past : a ≤ b → length rows < b → true ≡ spanOut rows from end dof a b l
-  unfolding spanOut
-  span-past h q = rw (le-ltb b a h, lt-ltb (length rows) b q)
+pub run-some : (n a b x y : ℕ) → RunThere n a b → a < b → x ≡ a → y ≡ b → SomeThere n x y
+run-some n a b x y r h e f = rw (e, f) (record { some = h; there = r .inside })
 
-  pub span-local : a ≤ b → b ≤ length rows → dof ≤ l → true ≡ spanOut rows from end dof a b l
-  unfolding spanOut
-  span-local h q p = rw (le-ltb b a h, le-ltb (length rows) b q, le-leb dof l p)
+pub run-few : (n a b x y : ℕ) → b - a ≤ 6 → x ≡ a → y ≡ b → FewThere (b - a) x y
+run-few n a b x y h e f = rw (e, f) (record { count = refl; few = h })
 
-  pub span-rows : (t : Bool) → a ≤ b → b ≤ length rows → l < dof → t ≡ some (rowOut rows from end) a b → t ≡ spanOut rows from end dof a b l
-  unfolding spanOut
-  span-rows t h q p e = rw (le-ltb b a h, le-ltb (length rows) b q, lt-leb dof l p) e
-
-  -- a span that stops the pass over those of a few entries: t is what `few_out` answered
-  pub stops-back : b ≤ a → true ≡ spanStops rows from end dof a b l
-  unfolding spanStops
+module _ (rows : List ℕ) (from end a b : ℕ) where
+  pub stops-back : b ≤ a → true ≡ rowsStop rows from end a b
+  unfolding rowsStop
   stops-back h = rw (le-leb b a h)
 
-  pub stops-many : a < b → 6 < b - a → true ≡ spanStops rows from end dof a b l
-  unfolding spanStops
+  pub stops-many : a < b → 6 < b - a → true ≡ rowsStop rows from end a b
+  unfolding rowsStop
   stops-many h m = rw (lt-leb b a h, lt-ltb 6 (b - a) m)
 
-  module _ (h : a < b) (m : b - a ≤ 6) where
-    stops-few : spanOut rows from end dof a b l ≡ spanStops rows from end dof a b l
-    unfolding spanStops
-    stops-few = rw (lt-leb b a h, le-ltb 6 (b - a) m)
+  -- t is what `few_out` answered
+  pub stops-rows : (t : Bool) (x y : ℕ) → a < b → b - a ≤ 6 → x ≡ a → y ≡ b → t ≡ some (rowOut rows from end) x y → t ≡ rowsStop rows from end a b
+  unfolding rowsStop
+  stops-rows t x y h m i j e = rw (lt-leb b a h, le-ltb 6 (b - a) m) (rw (i, j) at e)
 
-    pub stops-past : (w : ℕ) → w ≡ b → length rows < w → true ≡ spanStops rows from end dof a b l
-    stops-past w e q = span-past (omega arith) (rw e at q) ∙ stops-few
-
-    pub stops-local : (w v : ℕ) → w ≡ b → w ≤ length rows → v ≡ l → dof ≤ v → true ≡ spanStops rows from end dof a b l
-    stops-local w v e q f p = span-local (omega arith) (rw e at q) (rw f at p) ∙ stops-few
-
-    pub stops-rows : (t : Bool) (w v x y : ℕ) → w ≡ b → w ≤ length rows → v ≡ l → v < dof → x ≡ a → y ≡ b → t ≡ some (rowOut rows from end) x y → t ≡ spanStops rows from end dof a b l
-    stops-rows t w v x y e q f p i j g = span-rows t (omega arith) (rw e at q) (rw f at p) (rw (i, j) at g) ∙ stops-few
-
--- the pass over spans of a few entries leaves out good ones alone
-module _ (rows : List ℕ) (from end dof : ℕ) (lo hi local : List ℕ) where
-  stops-bad : (k : ℕ) → spanStopsAt rows from end dof lo hi local k ≡ false → spanOutAt rows from end dof lo hi local k ≡ false
-  unfolding spanStopsAt spanStops spanOutAt
-  stops-bad k e =
+-- the pass over them leaves out good ones alone
+module _ (rows : List ℕ) (from end : ℕ) (lo hi : List ℕ) where
+  stops-out : (k : ℕ) → rowsStopAt rows from end lo hi k ≡ false → rowsOutAt rows from end lo hi k ≡ false
+  unfolding rowsStopAt rowsStop rowsOutAt
+  stops-out k e =
       let a = getD lo k 0 in
       let b = getD hi k 0 in
-      let bad = spanOut rows from end dof a b (getD local k 0) in
+      let bad = some (rowOut rows from end) a b in
       or-false (ltb 6 (b - a)) bad (or-false (leb b a) (ltb 6 (b - a) || bad) e .1) .1
 
-  pub few-passed : (at k last : ℕ) (z : Bool) → k ≡ first (spanStopsAt rows from end dof lo hi local) at last → some (spanOutAt rows from end dof lo hi local) at last ≡ z
-      → some (spanOutAt rows from end dof lo hi local) k last ≡ z
-  few-passed at k last z e inv =
-      rw e (some-from (spanOutAt rows from end dof lo hi local) at (first (spanStopsAt rows from end dof lo hi local) at last) last (first-low (spanStopsAt rows from end dof lo hi local) at last) (λ i p q. stops-bad i (first-before (spanStopsAt rows from end dof lo hi local) at last i p q)))
-      ∙ inv
+  module _ (at k last : ℕ) (e : k ≡ first (rowsStopAt rows from end lo hi) at last) where
+    pub few-passed : (z : Bool) → some (rowsOutAt rows from end lo hi) at last ≡ z → some (rowsOutAt rows from end lo hi) k last ≡ z
+    few-passed z inv =
+        rw e (some-from (rowsOutAt rows from end lo hi) at (first (rowsStopAt rows from end lo hi) at last) last (first-low (rowsStopAt rows from end lo hi) at last) (λ i p q. stops-out i (first-before (rowsStopAt rows from end lo hi) at last i p q)))
+        ∙ inv
+
+    pub few-low : at ≤ k
+    few-low = omega (arith, first-low (rowsStopAt rows from end lo hi) at last, e)
+
+  pub few-later : (low k i last : ℕ) → low ≤ k → i ≡ first (rowsStopAt rows from end lo hi) (k + 1) last → low ≤ i
+  few-later low k i last l e = omega (arith, few-low (k + 1) i last e)
 
   -- and goes on
-  pub few-goes : (k i last : ℕ) → k < last → i ≡ first (spanStopsAt rows from end dof lo hi local) (k + 1) last → last - i < last - k
-  few-goes k i last h e = omega (arith, first-low (spanStopsAt rows from end dof lo hi local) (k + 1) last, e)
+  pub few-goes : (k i last : ℕ) → k < last → i ≡ first (rowsStopAt rows from end lo hi) (k + 1) last → last - i < last - k
+  few-goes k i last h e = omega (arith, few-low (k + 1) i last e)
 
-  -- t is what `span_stops` answered
-  pub stops-told : (k : ℕ) (t z : Bool) → t ≡ spanStops rows from end dof (getD lo k 0) (getD hi k 0) (getD local k 0) → t ≡ z → spanStopsAt rows from end dof lo hi local k ≡ z
-  unfolding spanStopsAt
+  -- t is what `rows_stop` answered, or `rows_out` of a and b as the code read them
+  pub stops-told : (k : ℕ) (t z : Bool) → t ≡ rowsStop rows from end (getD lo k 0) (getD hi k 0) → t ≡ z → rowsStopAt rows from end lo hi k ≡ z
+  unfolding rowsStopAt
   stops-told k t z e u = sym e ∙ u
+
+  pub rows-told : (k a b : ℕ) (t z : Bool) → a ≡ getD lo k 0 → b ≡ getD hi k 0 → t ≡ some (rowOut rows from end) a b → t ≡ z → rowsOutAt rows from end lo hi k ≡ z
+  unfolding rowsOutAt
+  rows-told k a b t z p q e u = rw (← p, ← q) (sym e ∙ u)
 
 -- all of them are passed
 pub pass-ends : (bad : ℕ → Bool) {k hi z : ℕ} → hi ≤ k → first bad k hi ≡ z → k ≡ z
 pass-ends bad {k} {hi} h inv = sym (first-none bad k hi h) ∙ inv
 
--- a, b and l are what the code read, and t what `span_bad` answered
-pub span-told : (rows : List ℕ) (from end dof : ℕ) (lo hi local : List ℕ) (k a b l : ℕ) (t z : Bool) → a ≡ getD lo k 0 → b ≡ getD hi k 0 → l ≡ getD local k 0
-    → t ≡ spanOut rows from end dof a b l → t ≡ z → spanOutAt rows from end dof lo hi local k ≡ z
-unfolding spanOutAt
-span-told rows from end dof lo hi local k a b l t z p q r e u = rw (← p, ← q, ← r) (sym e ∙ u)
+module _ (n : ℕ) (lo hi : List ℕ) (at last : ℕ) (r : RunsThere n lo hi at last) where
+  pub run-at : (k : ℕ) → at ≤ k → k < last → RunThere n (getD lo k 0) (getD hi k 0)
+  run-at k l h = r .each k l h
+
+  pub run-read : (k a b : ℕ) → at ≤ k → k < last → a ≡ getD lo k 0 → b ≡ getD hi k 0 → RunThere n a b
+  run-read k a b l h e f = rw (e, f) (r .each k l h)
+
+  pub runs-later : (k : ℕ) → at ≤ k → RunsThere n lo hi (k + 1) last
+  runs-later k l = record { lo-there = r .lo-there; hi-there = r .hi-there; each = λ i p q. r .each i (omega arith) q }
+
+-- ---- spans
+
+pub narrow-more : (n : ℕ) → 4_294_967_295 < n → 4_294_967_295 ≡ narrowed n
+unfolding narrowed
+narrow-more n h = rw (lt-ltb 4_294_967_295 n h)
+
+pub narrow-same : (n : ℕ) → n ≤ 4_294_967_295 → n ≡ narrowed n
+unfolding narrowed
+narrow-same n h = rw (le-ltb 4_294_967_295 n h)
+
+narrow-above : (n y : ℕ) → y < 2 ^ 32 → ltb (narrowed n) y ≡ ltb n y
+unfolding narrowed
+narrow-above n y h = go (decLt 4_294_967_295 n)
+  where
+    go : Dec (4_294_967_295 < n) → ltb (cond (ltb 4_294_967_295 n) 4_294_967_295 n) y ≡ ltb n y
+    go (yes q) = rw (lt-ltb 4_294_967_295 n q, le-ltb 4_294_967_295 y (omega arith), le-ltb n y (omega arith))
+    go (no q) = rw (le-ltb 4_294_967_295 n (omega arith))
+
+above-last : (dof l : ℕ) → 0 < dof → ltb (dof - 1) l ≡ leb dof l
+above-last dof l h = go (decLt (dof - 1) l)
+  where
+    go : Dec (dof - 1 < l) → ltb (dof - 1) l ≡ leb dof l
+    go (yes q) = rw (lt-ltb (dof - 1) l q, le-leb dof l (omega arith))
+    go (no q) = rw (le-ltb (dof - 1) l (omega arith), lt-leb dof l (omega arith))
+
+-- m and t are what `narrow` answered
+pub shape-told : (n dof a b l m t : ℕ) → 0 < dof → m ≡ narrowed n → t ≡ narrowed (dof - 1) → b < 2 ^ 32 → l < 2 ^ 32
+    → (ltb b a || (ltb m b || ltb t l)) ≡ shapeOut n dof a b l
+unfolding shapeOut
+shape-told n dof a b l m t h e f p q = rw (e, f, narrow-above n b p, narrow-above (dof - 1) l q, above-last dof l h)
+
+module _ (n dof : ℕ) (lo hi local : List ℕ) where
+  -- t is what `shape_bad` answered
+  pub shape-is-bad : (k : ℕ) (t : Bool) → t ≡ shapeOut n dof (getD lo k 0) (getD hi k 0) (getD local k 0) → t ≡ shapeOutAt n dof lo hi local k
+  unfolding shapeOutAt
+  shape-is-bad k t e = e
+
+  all-out : dof ≡ 0 → (k : ℕ) → shapeOutAt n dof lo hi local k ≡ true
+  unfolding shapeOutAt shapeOut
+  all-out e k = rw (e, le-leb 0 (getD local k 0) (omega arith)) (go (ltb (getD hi k 0) (getD lo k 0)) (ltb n (getD hi k 0)))
+    where
+      go : (x y : Bool) → (x || (y || true)) ≡ true
+      go true y = refl
+      go false true = refl
+      go false false = refl
+
+  pub no-places : (first last : ℕ) → dof ≡ 0 → ltb first last ≡ some (shapeOutAt n dof lo hi local) first last
+  no-places first last e = go (decLt first last)
+    where
+      go : Dec (first < last) → ltb first last ≡ some (shapeOutAt n dof lo hi local) first last
+      go (yes h) = lt-ltb first last h ∙ sym (some-at (shapeOutAt n dof lo hi local) first last first (omega arith) h (all-out e first))
+      go (no h) = le-ltb first last (omega arith) ∙ sym (some-none (shapeOutAt n dof lo hi local) first last (omega arith))
+
+-- a span is bad by its shape or by its rows; t is what `some_shape_bad` answered
+module _ (rows : List ℕ) (from end dof : ℕ) (lo hi local : List ℕ) where
+  abbrev shape : ℕ → Bool
+  shape = shapeOutAt (length rows) dof lo hi local
+
+  span-splits : (k : ℕ) → spanOutAt rows from end dof lo hi local k ≡ (shapeOutAt (length rows) dof lo hi local k || rowsOutAt rows from end lo hi k)
+  unfolding spanOutAt spanOut shapeOutAt shapeOut rowsOutAt
+  span-splits k = go (ltb (getD hi k 0) (getD lo k 0)) (ltb (length rows) (getD hi k 0)) (leb dof (getD local k 0)) (some (rowOut rows from end) (getD lo k 0) (getD hi k 0))
+    where
+      go : (x y z w : Bool) → (x || (y || (z || w))) ≡ ((x || (y || z)) || w)
+      go true y z w = refl
+      go false true z w = refl
+      go false false z w = refl
+
+  module _ (at last : ℕ) (t : Bool) (e : t ≡ some (shapeOutAt (length rows) dof lo hi local) at last) where
+    pub spans-shape : t ≡ true → true ≡ some (spanOutAt rows from end dof lo hi local) at last
+    spans-shape q =
+        let h = ltb-true (first shape at last) last (sym e ∙ q) in
+        sym (some-at (spanOutAt rows from end dof lo hi local) at last (first shape at last) (first-low shape at last) h (span-splits (first shape at last) ∙ rw (first-bad shape at last h)))
+
+    module _ (q : t ≡ false) where
+      pub spans-rows : (u : Bool) → u ≡ some (rowsOutAt rows from end lo hi) at last → u ≡ some (spanOutAt rows from end dof lo hi local) at last
+      spans-rows u f =
+          f ∙ rw (first-same (rowsOutAt rows from end lo hi) (spanOutAt rows from end dof lo hi local) at last (λ i l h. sym (span-splits i ∙ rw (past-none shape at last (sym e ∙ q) i l h))))
+
+      pub spans-run : SpansThere (length lo) (length hi) (length local) last → RunsThere (length rows) lo hi at last
+      unfolding shapeOutAt shapeOut
+      spans-run s = record {
+        lo-there = s .lo;
+        hi-there = s .hi;
+        each = λ k l h.
+            let a = getD lo k 0 in
+            let b = getD hi k 0 in
+            let g = past-none shape at last (sym e ∙ q) k l h in
+            let x = or-false (ltb b a) (ltb (length rows) b || leb dof (getD local k 0)) g in
+            let y = or-false (ltb (length rows) b) (leb dof (getD local k 0)) (x .1) in
+            record { order = ltb-false b a (x .0); inside = ltb-false (length rows) b (y .0) };
+      }
 
 -- ---- chunks
 
@@ -431,25 +520,34 @@ pub ruleset planning = (
   few-second,
   few-four,
   few-six,
+  run-some,
+  run-few,
   stops-back,
   stops-many,
-  stops-past,
-  stops-local,
   stops-rows,
   stops-told,
+  rows-told,
   few-passed,
+  few-low,
+  few-later,
   few-goes,
+  run-at,
+  run-read,
+  runs-later,
+  narrow-more,
+  narrow-same,
+  shape-told,
+  shape-is-bad,
+  no-places,
+  spans-shape,
+  spans-rows,
+  spans-run,
   chunk-window,
   column-none,
   column-low,
   column-high,
   ends-out,
   no-rows-out,
-  span-back,
-  span-past,
-  span-local,
-  span-rows,
-  span-told,
   chunk-told,
   chunk-spans,
   chunk-at,

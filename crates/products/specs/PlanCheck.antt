@@ -8,6 +8,7 @@ use lib.ListN.{length, getD}
 use Rattle.ground.specs.First.{some}
 use Rattle.columns.specs.Refusals.{Told, tell, done}
 use Rattle.columns.specs.Columns.{Columns, columnsOf, firstIn, endIn, falls}
+use Rattle.columns.specs.Unchecked.{RunThere}
 use Rattle.plan.specs.Spans.{Spread}
 use Rattle.products.specs.Orders.{planBad}
 
@@ -34,12 +35,27 @@ spanOut rows from end dof a b l = ltb b a || (ltb (length rows) b || (leb dof l 
 unfoldable pub spanOutAt : List ℕ → ℕ → ℕ → ℕ → List ℕ → List ℕ → List ℕ → ℕ → Bool
 spanOutAt rows from end dof lo hi local k = spanOut rows from end dof (getD lo k 0) (getD hi k 0) (getD local k 0)
 
--- a span is bad, or has no entry, or more than six; span k of a list is or has
-unfoldable pub spanStops : List ℕ → ℕ → ℕ → ℕ → ℕ → ℕ → ℕ → Bool
-spanStops rows from end dof a b l = leb b a || (ltb 6 (b - a) || spanOut rows from end dof a b l)
+-- the part of it that the rows do not tell: it runs back, past n entries, or its local number is none below dof
+unfoldable pub shapeOut : ℕ → ℕ → ℕ → ℕ → ℕ → Bool
+shapeOut n dof a b l = ltb b a || (ltb n b || leb dof l)
 
-unfoldable pub spanStopsAt : List ℕ → ℕ → ℕ → ℕ → List ℕ → List ℕ → List ℕ → ℕ → Bool
-spanStopsAt rows from end dof lo hi local k = spanStops rows from end dof (getD lo k 0) (getD hi k 0) (getD local k 0)
+unfoldable pub shapeOutAt : ℕ → ℕ → List ℕ → List ℕ → List ℕ → ℕ → Bool
+shapeOutAt n dof lo hi local k = shapeOut n dof (getD lo k 0) (getD hi k 0) (getD local k 0)
+
+-- n, or the largest list number
+unfoldable pub narrowed : ℕ → ℕ
+narrowed n = cond (ltb 4_294_967_295 n) 4_294_967_295 n
+
+-- the part that they tell: a row of span k is out
+unfoldable pub rowsOutAt : List ℕ → ℕ → ℕ → List ℕ → List ℕ → ℕ → Bool
+rowsOutAt rows from end lo hi k = some (rowOut rows from end) (getD lo k 0) (getD hi k 0)
+
+-- one is, or there are none, or more than six
+unfoldable pub rowsStop : List ℕ → ℕ → ℕ → ℕ → ℕ → Bool
+rowsStop rows from end a b = leb b a || (ltb 6 (b - a) || some (rowOut rows from end) a b)
+
+unfoldable pub rowsStopAt : List ℕ → ℕ → ℕ → List ℕ → List ℕ → ℕ → Bool
+rowsStopAt rows from end lo hi k = rowsStop rows from end (getD lo k 0) (getD hi k 0)
 
 -- the starts do not rise from 0 to n without falling
 unfoldable pub startsOut : ℕ → List ℕ → ℕ → Bool
@@ -78,6 +94,12 @@ pub record SpansThere (nlo nhi nlocal last : ℕ) : Type 0 where
   pub lo : last ≤ nlo
   pub hi : last ≤ nhi
   pub local : last ≤ nlocal
+
+-- so are those from `first` on, and their entries among n
+pub record RunsThere (n : ℕ) (lo hi : List ℕ) (first last : ℕ) : Type 0 where
+  pub lo-there : last ≤ length lo
+  pub hi-there : last ≤ length hi
+  pub each : (k : ℕ) → first ≤ k → k < last → RunThere n (getD lo k 0) (getD hi k 0)
 
 -- so are those of chunk c, and its end is a list number
 pub record ChunkThere (len : ℕ) (starts : List ℕ) (nlo nhi nlocal c : ℕ) : Type 0 where

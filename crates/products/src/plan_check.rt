@@ -1,7 +1,8 @@
 // Refusal 13: a plan as it is lent. Its spans are looked at chunk by chunk, so a chunk's first row and its size are found once for all of them.
-// Most spans have a few entries: they are looked at from both ends, in a loop of its own. Rows rise along a column, so a longer span that lies in
-// one column is told by its first and its last row. Its column is guessed, from the span before or by halves, and the guess is tested: a span that
-// crosses columns, as a plan from elsewhere may have, is looked at entry by entry.
+// What the rows do not tell is looked at first, in a pass without a branch. Then the rows: most spans have a few entries, and are looked at from
+// both ends, in a small loop. Rows rise along a column, so a longer span that lies in one column is told by its first and its last row. Its column
+// is guessed, from the span before or by halves, and the guess is tested: a span that crosses columns, as a plan from elsewhere may have, is
+// looked at entry by entry.
 use crate::side::Side;
 use crate::side::side_number;
 use columns::check::column_count;
@@ -12,7 +13,7 @@ use columns::unchecked::first_place;
 use ground::wide;
 use std::num::wrapping_sub_u32;
 ghost use mathlib.Core.Path.{_≡_};
-ghost use Prim.Native.Nat.{_+_};
+ghost use Prim.Native.Nat.{_+_, _<_};
 ghost use lib.ListN.{length};
 ghost use Rattle.ground.specs.First.{first, some};
 ghost use Rattle.columns.specs.Refusals.{told};
@@ -20,7 +21,7 @@ ghost use Rattle.columns.specs.Columns.{falls};
 ghost use Rattle.columns.specs.Unchecked.{RunThere};
 ghost use Rattle.products.specs.Orders.{chunkBad};
 ghost use Rattle.products.specs.Side.{eliminated};
-ghost use Rattle.products.specs.PlanCheck.{startsOut, rowsOnly, rowOut, endsOut, inColumn, spanOut, spanOutAt, spanStops, spanStopsAt, planTold, Risen, Window, SomeThere, FewThere, StartsThere, SpansThere, ChunkThere, ChunksThere, PlanThere};
+ghost use Rattle.products.specs.PlanCheck.{startsOut, rowsOnly, rowOut, endsOut, inColumn, narrowed, shapeOut, shapeOutAt, rowsOutAt, rowsStop, rowsStopAt, spanOutAt, planTold, Risen, Window, SomeThere, FewThere, RunsThere, StartsThere, SpansThere, ChunkThere, ChunksThere, PlanThere};
 
 // Whether the row at place p is below `from`, or past the `size` rows from there on: one comparison, since what is below `from` wraps.
 fn row_out(rows: &[u32], from: u32, size: u32, p: usize) -> bool
@@ -96,14 +97,32 @@ fn find_column(ptrs: &[u32], a: usize) -> usize {
     low
 }
 
+// Whether places a up to b lie in column j.
+fn in_column(ptrs: &[u32], j: usize, a: usize, b: usize) -> bool
+    ensures { λ r. ⌜ r ≡ inColumn (now (ptrs .entry)) j a b ⌝ }
+{
+    if column_count(ptrs) <= j {
+        return false;
+    }
+    if a < first_place(ptrs, j) {
+        return false;
+    }
+    b <= end_place(ptrs, j)
+}
+
 // How many columns after the one before are tried before they are halved.
 const NEXT_FEW: usize = 16;
 
-// A column to try for a span from place a on, after column j: the last that begins there or before. Nothing rests on it but time.
-fn guess_column(ptrs: &[u32], j: usize, a: usize) -> usize {
+// A column to try for a span from a to b, after column j: mostly the next one, else the last that begins at a or before. Nothing rests on it but
+// time.
+fn guess_column(ptrs: &[u32], j: usize, a: usize, b: usize) -> usize {
     let n = column_count(ptrs);
     if n <= j {
         return find_column(ptrs, a);
+    }
+    let next = j + 1;
+    if in_column(ptrs, next, a, b) {
+        return next;
     }
     if a < first_place(ptrs, j) {
         return find_column(ptrs, a);
@@ -121,26 +140,16 @@ fn guess_column(ptrs: &[u32], j: usize, a: usize) -> usize {
     find_column(ptrs, a)
 }
 
-// Whether places a up to b lie in column j.
-fn in_column(ptrs: &[u32], j: usize, a: usize, b: usize) -> bool
-    ensures { λ r. ⌜ r ≡ inColumn (now (ptrs .entry)) j a b ⌝ }
-{
-    if column_count(ptrs) <= j {
-        return false;
-    }
-    if a < first_place(ptrs, j) {
-        return false;
-    }
-    b <= end_place(ptrs, j)
-}
-
 // Whether one of places a up to b has a row out of the `size` rows from `from` on: by the first and the last where they lie in column j.
 fn rows_out(ptrs: &[u32], rows: &[u32], from: u32, size: u32, j: usize, a: usize, b: usize) -> bool
     requires { ⌜ Risen (now ptrs) (now rows) ⌝ }
     requires { ⌜ Window from size ⌝ }
-    requires { ⌜ SomeThere (length (now rows)) a b ⌝ }
+    requires { ⌜ RunThere (length (now rows)) a b ⌝ }
     ensures { λ r. ⌜ r ≡ some (rowOut (now (rows .entry)) from (from + size)) a b ⌝ }
 {
+    if b <= a {
+        return false;
+    }
     if in_column(ptrs, j, a, b) {
         let end = from + size;
         return (rows[a] < from) | (end <= rows[b - 1]);
@@ -148,41 +157,11 @@ fn rows_out(ptrs: &[u32], rows: &[u32], from: u32, size: u32, j: usize, a: usize
     some_row_out(rows, from, size, a, b)
 }
 
-// Whether a span from a to b with local number l is bad, in the chunk of `size` rows from `from` on; j is the column to try.
-fn span_bad(
-    ptrs: &[u32],
-    rows: &[u32],
-    from: u32,
-    size: u32,
-    dof: usize,
-    j: usize,
-    a: usize,
-    b: usize,
-    l: usize,
-) -> bool
-    requires { ⌜ Risen (now ptrs) (now rows) ⌝ }
+// Whether one of places a up to b has, or they are not a few.
+fn rows_stop(rows: &[u32], from: u32, size: u32, a: u32, b: u32) -> bool
     requires { ⌜ Window from size ⌝ }
-    ensures { λ r. ⌜ r ≡ spanOut (now (rows .entry)) from (from + size) dof a b l ⌝ }
-{
-    if b < a {
-        return true;
-    }
-    if rows.len() < b {
-        return true;
-    }
-    if dof <= l {
-        return true;
-    }
-    if b <= a {
-        return false;
-    }
-    rows_out(ptrs, rows, from, size, j, a, b)
-}
-
-// Whether a span from a to b with local number l is bad, or has not a few entries.
-fn span_stops(rows: &[u32], from: u32, size: u32, dof: usize, a: u32, b: u32, l: u32) -> bool
-    requires { ⌜ Window from size ⌝ }
-    ensures { λ r. ⌜ r ≡ spanStops (now (rows .entry)) from (from + size) dof a b l ⌝ }
+    requires { ⌜ RunThere (length (now rows)) a b ⌝ }
+    ensures { λ r. ⌜ r ≡ rowsStop (now (rows .entry)) from (from + size) a b ⌝ }
 {
     if b <= a {
         return true;
@@ -190,34 +169,26 @@ fn span_stops(rows: &[u32], from: u32, size: u32, dof: usize, a: u32, b: u32, l:
     if FEW_ENTRIES < b - a {
         return true;
     }
-    if rows.len() < wide(b) {
-        return true;
-    }
-    if dof <= wide(l) {
-        return true;
-    }
     few_out(rows, from, size, b - a, wide(a), wide(b))
 }
 
-// The first of spans `at` up to `last` that is bad or has not a few entries. Good spans of a few, most of them, are passed in this small loop.
+// The first of spans `at` up to `last` that has a row out or not a few entries. Good spans of a few, most of them, are passed in this small loop.
 fn pass_few(
     rows: &[u32],
     from: u32,
     size: u32,
-    dof: usize,
     lo: &[u32],
     hi: &[u32],
-    local: &[u32],
     at: usize,
     last: usize,
 ) -> usize
     requires { ⌜ Window from size ⌝ }
-    requires { ⌜ SpansThere (length (now lo)) (length (now hi)) (length (now local)) last ⌝ }
-    ensures { λ r. ⌜ r ≡ first (spanStopsAt (now (rows .entry)) from (from + size) dof (now (lo .entry)) (now (hi .entry)) (now (local .entry))) at last ⌝ }
+    requires { ⌜ RunsThere (length (now rows)) (now lo) (now hi) at last ⌝ }
+    ensures { λ r. ⌜ r ≡ first (rowsStopAt (now (rows .entry)) from (from + size) (now (lo .entry)) (now (hi .entry))) at last ⌝ }
 {
     let mut k = at;
     while k < last {
-        if span_stops(rows, from, size, dof, lo[k], hi[k], local[k]) {
+        if rows_stop(rows, from, size, lo[k], hi[k]) {
             return k;
         }
         k += 1;
@@ -225,7 +196,78 @@ fn pass_few(
     k
 }
 
-// Whether one of spans `first` up to `last` is bad.
+// Whether one of spans `first` up to `last` has a row out.
+fn some_rows_out(
+    ptrs: &[u32],
+    rows: &[u32],
+    from: u32,
+    size: u32,
+    lo: &[u32],
+    hi: &[u32],
+    first: usize,
+    last: usize,
+) -> bool
+    requires { ⌜ Risen (now ptrs) (now rows) ⌝ }
+    requires { ⌜ Window from size ⌝ }
+    requires { ⌜ RunsThere (length (now rows)) (now lo) (now hi) first last ⌝ }
+    ensures { λ r. ⌜ r ≡ some (rowsOutAt (now (rows .entry)) from (from + size) (now (lo .entry)) (now (hi .entry))) first last ⌝ }
+{
+    let mut j: usize = 0;
+    let mut k = pass_few(rows, from, size, lo, hi, first, last);
+    while k < last {
+        let a = wide(lo[k]);
+        let b = wide(hi[k]);
+        j = guess_column(ptrs, j, a, b);
+        if rows_out(ptrs, rows, from, size, j, a, b) {
+            return true;
+        }
+        k = pass_few(rows, from, size, lo, hi, k + 1, last);
+    }
+    false
+}
+
+// n, or the largest list number where n is above it: a list number is above the one exactly if it is above the other.
+fn narrow(n: usize) -> u32
+    ensures { λ r. ⌜ r ≡ narrowed n ⌝ }
+{
+    if 4_294_967_295 < n {
+        return 4_294_967_295;
+    }
+    n as u32
+}
+
+// Whether a span from a to b with local number l runs back, past n entries, or has no place among `dof`. No branch, and list numbers alone.
+fn shape_bad(n: usize, dof: usize, a: u32, b: u32, l: u32) -> bool
+    requires { ⌜ 0 < dof ⌝ }
+    ensures { λ r. ⌜ r ≡ shapeOut n dof a b l ⌝ }
+{
+    (b < a) | ((narrow(n) < b) | (narrow(dof - 1) < l))
+}
+
+// Whether one of spans `first` up to `last` does. All are looked at, so that the compiler can take several at a time.
+fn some_shape_bad(
+    n: usize,
+    dof: usize,
+    lo: &[u32],
+    hi: &[u32],
+    local: &[u32],
+    first: usize,
+    last: usize,
+) -> bool
+    requires { ⌜ SpansThere (length (now lo)) (length (now hi)) (length (now local)) last ⌝ }
+    ensures { λ r. ⌜ r ≡ some (shapeOutAt n dof (now (lo .entry)) (now (hi .entry)) (now (local .entry))) first last ⌝ }
+{
+    if dof == 0 {
+        return first < last;
+    }
+    let mut bad = false;
+    for k in first..last {
+        bad = bad | shape_bad(n, dof, lo[k], hi[k], local[k]);
+    }
+    bad
+}
+
+// Whether one of spans `first` up to `last` is bad: first what their rows do not tell.
 fn some_span_bad(
     ptrs: &[u32],
     rows: &[u32],
@@ -243,19 +285,10 @@ fn some_span_bad(
     requires { ⌜ SpansThere (length (now lo)) (length (now hi)) (length (now local)) last ⌝ }
     ensures { λ r. ⌜ r ≡ some (spanOutAt (now (rows .entry)) from (from + size) dof (now (lo .entry)) (now (hi .entry)) (now (local .entry))) first last ⌝ }
 {
-    let mut j: usize = 0;
-    let mut k = pass_few(rows, from, size, dof, lo, hi, local, first, last);
-    while k < last {
-        let a = wide(lo[k]);
-        let b = wide(hi[k]);
-        let l = wide(local[k]);
-        j = guess_column(ptrs, j, a);
-        if span_bad(ptrs, rows, from, size, dof, j, a, b, l) {
-            return true;
-        }
-        k = pass_few(rows, from, size, dof, lo, hi, local, k + 1, last);
+    if some_shape_bad(rows.len(), dof, lo, hi, local, first, last) {
+        return true;
     }
-    false
+    some_rows_out(ptrs, rows, from, size, lo, hi, first, last)
 }
 
 // Whether chunk c has a bad span.

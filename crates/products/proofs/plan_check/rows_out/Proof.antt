@@ -6,5 +6,6 @@ use Rattle.products.proofs.plan_check.rows_out.Tie as tie
 pub rows-out-spec : {M : Type 1} → statement M
 rows-out-spec =
     tie.close (tie.spec
-    (λ c κs. search planning) (λ c. search planning) (λ c. search planning) (λ c. search planning) (λ c. search planning)
-    (λ c. search planning) (λ c. search planning) (λ c. search planning) (λ c κs. search planning) (λ c. search planning))
+    (λ c. search planning) (λ c κs. search planning) (λ c. search planning) (λ c. search planning) (λ c. search planning)
+    (λ c. search planning) (λ c. search planning) (λ c. search planning) (λ c. search planning) (λ c κs. search planning)
+    (λ c. search planning))
