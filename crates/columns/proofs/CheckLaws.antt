@@ -124,22 +124,21 @@ module _ (m : Columns) where
   -- What the loop over the columns shows at column j: where it stops, where it goes on, and where it has passed all. n, from and to are what
   -- the code read: the column count, and the column's first and end places.
   module _ (j n : ℕ) (count : n ≡ columnCount m) where
-    -- b is what the test of the column answered
-    module _ (from to : ℕ) (f : from ≡ firstPlace m j) (t : to ≡ endPlace m j) (b : Bool) (test : b ≡ some (rowBad (m .nrows) (m .rows) from) from to) where
-      column-is : b ≡ columnBad m j
+    -- p is the first bad place that the code found, or the column's end
+    module _ (from to : ℕ) (f : from ≡ firstPlace m j) (t : to ≡ endPlace m j) (p : ℕ) (g : p ≡ first (rowBad (m .nrows) (m .rows) from) from to) where
+      column-is : ltb p to ≡ columnBad m j
       unfolding columnBad
-      column-is = rw (f, t) at test
+      column-is = rw (← f, ← t) (ap (λ (q : ℕ). ltb q to) g)
 
-      pub bad-row-at : (p : ℕ) → j < n → first (columnBad m) j n ≡ badColumn m → b ≡ true → p ≡ first (rowBad (m .nrows) (m .rows) from) from to
-          → tell 3 (j ∷ p ∷ []) ≡ badRow m
+      pub bad-row-at : j < n → first (columnBad m) j n ≡ badColumn m → p < to → tell 3 (j ∷ p ∷ []) ≡ badRow m
       unfolding badRow
-      bad-row-at p l inv e g =
-          let q : j ≡ badColumn m = first-stop (columnBad m) l inv (sym column-is ∙ e) in
+      bad-row-at l inv h =
+          let q : j ≡ badColumn m = first-stop (columnBad m) l inv (sym column-is ∙ lt-ltb p to h) in
           let k : j < columnCount m = rw count at l in
           rw (← q, lt-ltb _ _ k, rw (f, t) at g)
 
-      pub column-good : b ≡ false → columnBad m j ≡ false
-      column-good e = sym column-is ∙ e
+      pub column-good : to ≤ p → columnBad m j ≡ false
+      column-good h = sym column-is ∙ le-ltb p to h
 
     pub bad-row-none : n ≤ j → first (columnBad m) j n ≡ badColumn m → done ≡ badRow m
     unfolding badRow

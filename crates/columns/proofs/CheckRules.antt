@@ -6,7 +6,7 @@ use Prim.Native.Nat.{ℕ, zero, suc, _+_, _-_, _/_, _≤_, _<_}
 use native.Mathlib.Omega.{arith}
 use lib.Dec.{ltb, leb}
 use lib.ListN.{length, getD}
-use borrow.Author.Tests.{lt-ltb, le-ltb, le-leb, lt-leb, ltb-true, leb-true, leb-false}
+use borrow.Author.Tests.{lt-ltb, le-ltb, lt-leb, ltb-true, leb-true, leb-false}
 use Rattle.ground.specs.First.{first, some, None}
 use Rattle.ground.proofs.FirstLaws.{first-none, first-low, first-bad, past-none, none-past, some-at}
 use Rattle.ground.proofs.Rules.{searches}
@@ -52,15 +52,10 @@ module _ (nrows : ℕ) (rows : List ℕ) (from p : ℕ) where
   row-told row least t b call e q test =
       sym (ap (λ (r : ℕ). leb nrows r || ltb r least) e ∙ ap (λ (l : ℕ). leb nrows (getD rows p 0) || ltb (getD rows p 0) l) q ∙ row-is) ∙ sym call ∙ test
 
--- A column's rows are looked at as a whole: its last row is too large, or one is not above the one before it, exactly where some entry is bad.
+-- A column's rows as a whole: where its last row is not too large, some entry is bad exactly where one is not above the one before it.
 module _ (nrows : ℕ) (rows : List ℕ) (from to : ℕ) where
   pub column-empty : to ≤ from → false ≡ some (rowBad nrows rows from) from to
   column-empty h = rw (first-none (rowBad nrows rows from) from to h, le-ltb from to h)
-
-  -- last is the last row, as the code read it
-  pub column-high : (last : ℕ) → from < to → last ≡ getD rows (to - 1) 0 → nrows ≤ last → true ≡ some (rowBad nrows rows from) from to
-  unfolding rowBad
-  column-high last l e h = sym (some-at (rowBad nrows rows from) from to (to - 1) (omega arith) (omega arith) (rw (le-leb nrows (getD rows (to - 1) 0) (rw e at h))))
 
   fall-bad : (p : ℕ) → from + 1 ≤ p → rowFalls rows p ≡ true → rowBad nrows rows from p ≡ true
   unfolding rowBad
@@ -130,4 +125,4 @@ module _ (n k : ℕ) (exact : Bool) (pairs : List ℕ) (e : k ≡ badPair exact 
   unfolding pairsTold
   pairs-done l = rw (← e, le-ltb k (length pairs / 2) l)
 
-pub ruleset checking = (searches, column-empty, column-high, column-falls, falls-read, or-of, pointers-read, least-first, least-next, row-told, pair-short, pair-long, pair-fine, pair-told, pairs-done)
+pub ruleset checking = (searches, falls-read, or-of, pointers-read, least-first, least-next, row-told, pair-short, pair-long, pair-fine, pair-told, pairs-done)

@@ -52,14 +52,14 @@ fn pointer_falls(ptrs: &[u32], j: usize) -> bool
     ptrs[j + 1] < ptrs[j]
 }
 
-// Whether a pointer is below the one before it. It looks at all of them, without a branch, so that the compiler can take several at a time.
-fn some_pointer_falls(ptrs: &[u32]) -> bool
-    requires { ⌜ 0 < length (now ptrs) ⌝ }
+// Whether a pointer is below the one before it; so of any list. It looks at all of them, without a branch, so that the compiler can take several
+// at a time.
+pub fn some_pointer_falls(ptrs: &[u32]) -> bool
     ensures { λ r. ⌜ r ≡ some (falls (now (ptrs .entry))) 0 (length (now (ptrs .entry)) - 1) ⌝ }
 {
-    let last = ptrs.len() - 1;
+    let n = column_count(ptrs);
     let mut bad = false;
-    for j in 0..last {
+    for j in 0..n {
         bad = bad | pointer_falls(ptrs, j);
     }
     bad
@@ -120,34 +120,6 @@ fn row_falls(rows: &[u32], p: usize) -> bool
     rows[p] <= rows[p - 1]
 }
 
-// Whether a row of places lo up to hi is not above the one before it. It looks at all of them, without a branch, so that the compiler can
-// take several at a time.
-fn some_row_falls(rows: &[u32], lo: usize, hi: usize) -> bool
-    requires { ⌜ RunThere (length (now rows)) lo hi ⌝ }
-    requires { ⌜ 0 < lo ⌝ }
-    ensures { λ r. ⌜ r ≡ some (rowFalls (now (rows .entry))) lo hi ⌝ }
-{
-    let mut bad = false;
-    for p in lo..hi {
-        bad = bad | row_falls(rows, p);
-    }
-    bad
-}
-
-// Whether a column has a bad entry: a row that is not above the one before it, or a last row that is too large.
-fn column_bad(nrows: usize, rows: &[u32], from: usize, to: usize) -> bool
-    requires { ⌜ RunThere (length (now rows)) from to ⌝ }
-    ensures { λ r. ⌜ r ≡ some (rowBad nrows (now (rows .entry)) from) from to ⌝ }
-{
-    if to <= from {
-        return false;
-    }
-    if nrows <= wide(rows[to - 1]) {
-        return true;
-    }
-    some_row_falls(rows, from + 1, to)
-}
-
 // The first column with a bad entry, and the place of its first one.
 fn bad_row(nrows: usize, ptrs: &[u32], rows: &[u32], values: &[f64]) -> Answer
     requires { ⌜ Shaped (columnsOf nrows (now ptrs) (now rows) (now values)) ⌝ }
@@ -157,10 +129,11 @@ fn bad_row(nrows: usize, ptrs: &[u32], rows: &[u32], values: &[f64]) -> Answer
     for j in 0..n {
         let from = first_place(ptrs, j);
         let to = end_place(ptrs, j);
-        if column_bad(nrows, rows, from, to) {
+        let place = bad_place(nrows, rows, from, to);
+        if place < to {
             return Answer::Refused(Refusal::BadRow {
                 column: j,
-                place: bad_place(nrows, rows, from, to),
+                place: place,
             });
         }
     }
@@ -169,8 +142,7 @@ fn bad_row(nrows: usize, ptrs: &[u32], rows: &[u32], values: &[f64]) -> Answer
 
 // 1 for true, 0 for false.
 fn bit(b: bool) -> u32
-    ensures { λ r. ⌜ r ≡ bitOf b ⌝ }
-    ensures { λ r. ⌜ r ≤ 1 ⌝ }
+    ensures { λ r. ⌜ (r ≡ bitOf b) × (r ≤ 1) ⌝ }
 {
     b as u32
 }

@@ -21,7 +21,7 @@ use Rattle.blocks.proofs.LookupRules.{and-true}
 use Rattle.plan.specs.Spans.{inChunk, Spread}
 use Rattle.products.specs.Orders.{entryOut, spanBad, chunkBad, startsBad, planBad}
 use Rattle.products.specs.Side.{sideNumber}
-use Rattle.products.specs.PlanCheck.{rowsOnly, rowOut, endsOut, inColumn, narrowed, shapeOut, shapeOutAt, rowsOutAt, rowsStop, rowsStopAt, spanOut, spanOutAt, startsOut, planTold, Risen, Window, SomeThere, FewThere, RunsThere, StartsThere, SpansThere, ChunkThere, ChunksThere, PlanThere}
+use Rattle.products.specs.PlanCheck.{rowsOnly, rowOut, endsOut, inColumn, narrowed, shapeOut, shapeOutAt, rowsOutAt, rowsStop, rowsStopAt, spanOut, spanOutAt, startsOut, planTold, Risen, Window, SomeThere, FewThere, EntriesThere, StartsThere, SpansThere, ChunkThere, ChunksThere, PlanThere}
 
 pub or-of : (b t u : Bool) → t ≡ u → (b || t) ≡ (b || u)
 or-of b t u e = rw e
@@ -96,41 +96,34 @@ pub last-is-out : (rows : List ℕ) (from end a b : ℕ) (t u : Bool) → t ≡ 
 unfolding endsOut
 last-is-out rows from end a b t u e q f = rw (← e, q) f
 
--- of n places, a few, the first and the last pair by pair: t, u and v are what `ends_out` answered
-module _ (rows : List ℕ) (from end n a b : ℕ) (there : SomeThere (length rows) a b) (t : Bool) (e : t ≡ endsOut rows from end a b) where
-  ends-of : some (rowOut rows from end) a b ≡ (endsOut rows from end a b || some (rowOut rows from end) (a + 1) (b - 1))
+-- of a few places, `more` after the first, the first and the last pair by pair: t, u and v are what `ends_out` answered
+module _ (rows : List ℕ) (from end more a b : ℕ) (there : SomeThere (length rows) a b) (c : FewThere more a b) (t : Bool) (e : t ≡ endsOut rows from end a b) where
+  ends-of : some (rowOut rows from end) a b ≡ (t || some (rowOut rows from end) (a + 1) (b - 1))
   unfolding endsOut
-  ends-of = some-ends-of (rowOut rows from end) a b (there .some)
+  ends-of = rw e (some-ends-of (rowOut rows from end) a b (there .some))
 
   pub few-first : t ≡ true → true ≡ some (rowOut rows from end) a b
-  few-first q = rw (ends-of, ← e, q)
+  few-first q = rw (ends-of, q)
 
-  module _ (q : t ≡ false) (c : FewThere n a b) where
-    few-rest : some (rowOut rows from end) a b ≡ some (rowOut rows from end) (a + 1) (b - 1)
-    few-rest = rw (ends-of, ← e, q)
+  module _ (q : t ≡ false) (u : Bool) (f : u ≡ endsOut rows from end (a + 1) (b - 1)) where
+    second-of : some (rowOut rows from end) a b ≡ (u || some (rowOut rows from end) (a + 2) (b - 2))
+    unfolding endsOut
+    second-of =
+        let x : a + 1 + 1 ≡ a + 2 = omega arith in
+        let y : b - 1 - 1 ≡ b - 2 = omega arith in
+        rw (ends-of, q) (some-ends-of (rowOut rows from end) (a + 1) (b - 1) (omega (arith, c .count, c .several)) ∙ rw (f, x, y))
 
-    pub few-two : n ≤ 2 → false ≡ some (rowOut rows from end) a b
-    few-two h = rw few-rest (sym (some-none (rowOut rows from end) (a + 1) (b - 1) (omega (arith, c .count))))
+    pub few-second : u ≡ true → true ≡ some (rowOut rows from end) a b
+    few-second p = rw (second-of, p)
 
-    module _ (u : Bool) (h : 2 < n) (f : u ≡ endsOut rows from end (a + 1) (b - 1)) where
-      second-of : some (rowOut rows from end) a b ≡ (u || some (rowOut rows from end) (a + 2) (b - 2))
+    module _ (p : u ≡ false) where
+      pub few-four : more ≤ 3 → false ≡ some (rowOut rows from end) a b
+      few-four l = rw (second-of, p) (sym (some-none (rowOut rows from end) (a + 2) (b - 2) (omega (arith, c .count))))
+
+      pub few-six : (v : Bool) → 3 < more → v ≡ endsOut rows from end (a + 2) (b - 2) → v ≡ some (rowOut rows from end) a b
       unfolding endsOut
-      second-of =
-          let x : a + 1 + 1 ≡ a + 2 = omega arith in
-          let y : b - 1 - 1 ≡ b - 2 = omega arith in
-          few-rest ∙ some-ends-of (rowOut rows from end) (a + 1) (b - 1) (omega (arith, c .count)) ∙ rw (f, x, y)
-
-      pub few-second : u ≡ true → true ≡ some (rowOut rows from end) a b
-      few-second p = rw (second-of, p)
-
-      module _ (p : u ≡ false) where
-        pub few-four : n ≤ 4 → false ≡ some (rowOut rows from end) a b
-        few-four l = rw (second-of, p) (sym (some-none (rowOut rows from end) (a + 2) (b - 2) (omega (arith, c .count))))
-
-        pub few-six : (v : Bool) → 4 < n → v ≡ endsOut rows from end (a + 2) (b - 2) → v ≡ some (rowOut rows from end) a b
-        unfolding endsOut
-        few-six v l g =
-            rw (second-of, p, some-ends-of (rowOut rows from end) (a + 2) (b - 2) (omega (arith, c .count)), some-none (rowOut rows from end) (a + 2 + 1) (b - 2 - 1) (omega (arith, c .count, c .few)), ← g) (sym (or-none v))
+      few-six v l g =
+          rw (second-of, p, some-ends-of (rowOut rows from end) (a + 2) (b - 2) (omega (arith, c .count)), some-none (rowOut rows from end) (a + 2 + 1) (b - 2 - 1) (omega (arith, c .count, c .few)), ← g) (sym (or-none v))
 
 module _ (ptrs : List ℕ) (j a b : ℕ) where
   -- n is how many columns there are, first where column j begins, and end where it ends, as the code read them
@@ -204,25 +197,35 @@ no-rows-out rows from end a b h = sym (some-none (rowOut rows from end) a b h)
 
 -- ---- spans of a few entries
 
-pub run-some : (n a b x y : ℕ) → RunThere n a b → a < b → x ≡ a → y ≡ b → SomeThere n x y
-run-some n a b x y r h e f = rw (e, f) (record { some = h; there = r .inside })
-
-pub run-few : (n a b x y : ℕ) → b - a ≤ 6 → x ≡ a → y ≡ b → FewThere (b - a) x y
-run-few n a b x y h e f = rw (e, f) (record { count = refl; few = h })
-
-module _ (rows : List ℕ) (from end a b : ℕ) where
-  pub stops-back : b ≤ a → true ≡ rowsStop rows from end a b
+-- more is what the code subtracted, which wraps where there is no entry
+module _ (rows : List ℕ) (from end a b more : ℕ) (small : more < 2 ^ 32) (e : (more + 1) % 2 ^ 32 ≡ b - a) where
+  stops-by : a < b → b - a ≤ 6 → some (rowOut rows from end) a b ≡ rowsStop rows from end a b
   unfolding rowsStop
-  stops-back h = rw (le-leb b a h)
+  stops-by h m = rw (lt-leb b a h, le-ltb 6 (b - a) m)
 
-  pub stops-many : a < b → 6 < b - a → true ≡ rowsStop rows from end a b
+  pub stops-many : 5 < more → true ≡ rowsStop rows from end a b
   unfolding rowsStop
-  stops-many h m = rw (lt-leb b a h, lt-ltb 6 (b - a) m)
+  stops-many m = go (decLt a b)
+    where
+      go : Dec (a < b) → true ≡ (leb b a || (ltb 6 (b - a) || some (rowOut rows from end) a b))
+      go (yes h) = rw (lt-leb b a h, lt-ltb 6 (b - a) (omega (arith, small, e)))
+      go (no h) = rw (le-leb b a (omega arith))
 
-  -- t is what `few_out` answered
-  pub stops-rows : (t : Bool) (x y : ℕ) → a < b → b - a ≤ 6 → x ≡ a → y ≡ b → t ≡ some (rowOut rows from end) x y → t ≡ rowsStop rows from end a b
-  unfolding rowsStop
-  stops-rows t x y h m i j e = rw (lt-leb b a h, le-ltb 6 (b - a) m) (rw (i, j) at e)
+  module _ (x y : ℕ) (i : x ≡ a) (j : y ≡ b) where
+    pub more-some : (n : ℕ) → RunThere n a b → more ≤ 5 → SomeThere n x y
+    more-some n r m = rw (i, j) (record { some = omega (arith, small, e); there = r .inside })
+
+    pub more-few : 1 < more → more ≤ 5 → FewThere more x y
+    more-few l m = rw (i, j) (record { count = omega (arith, small, e); several = l; few = m })
+
+    -- t is what `ends_out` answered, or `few_out`
+    pub stops-ends : (t : Bool) → more ≤ 1 → t ≡ endsOut rows from end x y → t ≡ rowsStop rows from end a b
+    unfolding endsOut
+    stops-ends t m f =
+        rw (i, j) at f ∙ sym (some-ends-of (rowOut rows from end) a b (omega (arith, small, e)) ∙ rw (some-none (rowOut rows from end) (a + 1) (b - 1) (omega (arith, small, e))) (or-none _)) ∙ stops-by (omega (arith, small, e)) (omega (arith, small, e))
+
+    pub stops-rows : (t : Bool) → 1 < more → more ≤ 5 → t ≡ some (rowOut rows from end) x y → t ≡ rowsStop rows from end a b
+    stops-rows t l m f = rw (i, j) at f ∙ stops-by (omega (arith, small, e)) (omega (arith, small, e))
 
 -- the pass over them leaves out good ones alone
 module _ (rows : List ℕ) (from end : ℕ) (lo hi : List ℕ) where
@@ -263,14 +266,14 @@ module _ (rows : List ℕ) (from end : ℕ) (lo hi : List ℕ) where
 pub pass-ends : (bad : ℕ → Bool) {k hi z : ℕ} → hi ≤ k → first bad k hi ≡ z → k ≡ z
 pass-ends bad {k} {hi} h inv = sym (first-none bad k hi h) ∙ inv
 
-module _ (n : ℕ) (lo hi : List ℕ) (at last : ℕ) (r : RunsThere n lo hi at last) where
+module _ (n : ℕ) (lo hi : List ℕ) (at last : ℕ) (r : EntriesThere n lo hi at last) where
   pub run-at : (k : ℕ) → at ≤ k → k < last → RunThere n (getD lo k 0) (getD hi k 0)
   run-at k l h = r .each k l h
 
   pub run-read : (k a b : ℕ) → at ≤ k → k < last → a ≡ getD lo k 0 → b ≡ getD hi k 0 → RunThere n a b
   run-read k a b l h e f = rw (e, f) (r .each k l h)
 
-  pub runs-later : (k : ℕ) → at ≤ k → RunsThere n lo hi (k + 1) last
+  pub runs-later : (k : ℕ) → at ≤ k → EntriesThere n lo hi (k + 1) last
   runs-later k l = record { lo-there = r .lo-there; hi-there = r .hi-there; each = λ i p q. r .each i (omega arith) q }
 
 -- ---- spans
@@ -351,7 +354,7 @@ module _ (rows : List ℕ) (from end dof : ℕ) (lo hi local : List ℕ) where
       spans-rows u f =
           f ∙ rw (first-same (rowsOutAt rows from end lo hi) (spanOutAt rows from end dof lo hi local) at last (λ i l h. sym (span-splits i ∙ rw (past-none shape at last (sym e ∙ q) i l h))))
 
-      pub spans-run : SpansThere (length lo) (length hi) (length local) last → RunsThere (length rows) lo hi at last
+      pub spans-run : SpansThere (length lo) (length hi) (length local) last → EntriesThere (length rows) lo hi at last
       unfolding shapeOutAt shapeOut
       spans-run s = record {
         lo-there = s .lo;
@@ -402,22 +405,23 @@ chunk-at {c = c} h l = h .each c l
 
 -- ---- starts
 
-pub start-falls : (starts : List ℕ) (c : ℕ) → ltb (getD starts (c + 1) 0) (getD starts c 0) ≡ falls starts c
-unfolding falls
-start-falls starts c = refl
-
 module _ (chunks : ℕ) (starts : List ℕ) (n : ℕ) where
   pub starts-first : (getD starts 0 0 ≡ 0 → ⊥) → true ≡ startsOut chunks starts n
   unfolding startsOut
   starts-first h = rw (ne-eqb (getD starts 0 0) 0 h)
 
-  pub starts-fall : (t : Bool) → getD starts 0 0 ≡ 0 → t ≡ some (falls starts) 0 chunks → t ≡ true → true ≡ startsOut chunks starts n
-  unfolding startsOut
-  starts-fall t h e q = rw (eq-eqb (getD starts 0 0) 0 h, ← e, q)
+  -- t is what the test of the pointers answered of the starts
+  module _ (t : Bool) (h : getD starts 0 0 ≡ 0) (there : StartsThere (length starts) chunks) (call : t ≡ some (falls starts) 0 (length starts - 1)) where
+    falls-are : t ≡ some (falls starts) 0 chunks
+    falls-are = let e : length starts - 1 ≡ chunks = omega (arith, there .there) in rw e at call
 
-  pub starts-end : (t : Bool) (k : ℕ) → getD starts 0 0 ≡ 0 → t ≡ some (falls starts) 0 chunks → t ≡ false → k ≡ getD starts chunks 0 → not (eqb k n) ≡ startsOut chunks starts n
-  unfolding startsOut
-  starts-end t k h e q p = rw (eq-eqb (getD starts 0 0) 0 h, ← e, q, ← p)
+    pub starts-fall : t ≡ true → true ≡ startsOut chunks starts n
+    unfolding startsOut
+    starts-fall q = rw (eq-eqb (getD starts 0 0) 0 h, ← falls-are, q)
+
+    pub starts-end : (k : ℕ) → t ≡ false → k ≡ getD starts chunks 0 → not (eqb k n) ≡ startsOut chunks starts n
+    unfolding startsOut
+    starts-end k q p = rw (eq-eqb (getD starts 0 0) 0 h, ← falls-are, q, ← p)
 
 -- starts that rise from 0 to n without falling
 pub record Rising (starts : List ℕ) (chunks n : ℕ) : Type 0 where
@@ -469,7 +473,7 @@ module _ (starts : List ℕ) (chunks n : ℕ) (r : Rising starts chunks n) where
 
 module _ (len chunks : ℕ) (starts : List ℕ) (nlo nhi nlocal : ℕ) (p : PlanThere len chunks (length starts) nlo nhi nlocal) where
   pub plan-starts : StartsThere (length starts) chunks
-  plan-starts = record { there = omega (arith, p .starts) }
+  plan-starts = record { there = p .starts }
 
   pub plan-chunks : (t : Bool) → t ≡ startsOut chunks starts nlo → t ≡ false → ChunksThere len chunks starts nlo nhi nlocal
   plan-chunks t e q =
@@ -516,14 +520,13 @@ pub ruleset planning = (
   ends-are-out,
   last-is-out,
   few-first,
-  few-two,
   few-second,
   few-four,
   few-six,
-  run-some,
-  run-few,
-  stops-back,
+  more-some,
+  more-few,
   stops-many,
+  stops-ends,
   stops-rows,
   stops-told,
   rows-told,
@@ -551,7 +554,6 @@ pub ruleset planning = (
   chunk-told,
   chunk-spans,
   chunk-at,
-  start-falls,
   starts-first,
   starts-fall,
   starts-end,

@@ -80,14 +80,15 @@ pub record SomeThere (n a b : ℕ) : Type 0 where
   pub some : a < b
   pub there : b ≤ n
 
--- places a up to b are n, six or fewer
-pub record FewThere (n a b : ℕ) : Type 0 where
-  pub count : n ≡ b - a
-  pub few : n ≤ 6
+-- places a up to b are a first and `more`, two to five
+pub record FewThere (more a b : ℕ) : Type 0 where
+  pub count : more + 1 ≡ b - a
+  pub several : 1 < more
+  pub few : more ≤ 5
 
 -- n starts are one for each chunk, and one more
 pub record StartsThere (n chunks : ℕ) : Type 0 where
-  pub there : chunks < n
+  pub there : n ≡ chunks + 1
 
 -- spans before `last` are there
 pub record SpansThere (nlo nhi nlocal last : ℕ) : Type 0 where
@@ -96,7 +97,7 @@ pub record SpansThere (nlo nhi nlocal last : ℕ) : Type 0 where
   pub local : last ≤ nlocal
 
 -- so are those from `first` on, and their entries among n
-pub record RunsThere (n : ℕ) (lo hi : List ℕ) (first last : ℕ) : Type 0 where
+pub record EntriesThere (n : ℕ) (lo hi : List ℕ) (first last : ℕ) : Type 0 where
   pub lo-there : last ≤ length lo
   pub hi-there : last ≤ length hi
   pub each : (k : ℕ) → first ≤ k → k < last → RunThere n (getD lo k 0) (getD hi k 0)

@@ -6,6 +6,7 @@
 use crate::side::Side;
 use crate::side::side_number;
 use columns::check::column_count;
+use columns::check::some_pointer_falls;
 use columns::refusal::Answer;
 use columns::refusal::Refusal;
 use columns::unchecked::end_place;
@@ -17,11 +18,10 @@ ghost use Prim.Native.Nat.{_+_, _<_};
 ghost use lib.ListN.{length};
 ghost use Rattle.ground.specs.First.{first, some};
 ghost use Rattle.columns.specs.Refusals.{told};
-ghost use Rattle.columns.specs.Columns.{falls};
 ghost use Rattle.columns.specs.Unchecked.{RunThere};
 ghost use Rattle.products.specs.Orders.{chunkBad};
 ghost use Rattle.products.specs.Side.{eliminated};
-ghost use Rattle.products.specs.PlanCheck.{startsOut, rowsOnly, rowOut, endsOut, inColumn, narrowed, shapeOut, shapeOutAt, rowsOutAt, rowsStop, rowsStopAt, spanOutAt, planTold, Risen, Window, SomeThere, FewThere, RunsThere, StartsThere, SpansThere, ChunkThere, ChunksThere, PlanThere};
+ghost use Rattle.products.specs.PlanCheck.{startsOut, rowsOnly, rowOut, endsOut, inColumn, narrowed, shapeOut, shapeOutAt, rowsOutAt, rowsStop, rowsStopAt, spanOutAt, planTold, Risen, Window, SomeThere, FewThere, EntriesThere, StartsThere, SpansThere, ChunkThere, ChunksThere, PlanThere};
 
 // Whether the row at place p is below `from`, or past the `size` rows from there on: one comparison, since what is below `from` wraps.
 fn row_out(rows: &[u32], from: u32, size: u32, p: usize) -> bool
@@ -57,26 +57,20 @@ fn ends_out(rows: &[u32], from: u32, size: u32, a: usize, b: usize) -> bool
     row_out(rows, from, size, b - 1)
 }
 
-// A span of no more entries is looked at from both ends: to find its column costs more.
-const FEW_ENTRIES: u32 = 6;
-
-// Whether one of places a up to b is, of which there are n, a few: pair by pair from both ends, without a loop.
-fn few_out(rows: &[u32], from: u32, size: u32, n: u32, a: usize, b: usize) -> bool
+// Whether one of places a up to b is, of which there are `more` after the first, two to five: pair by pair from both ends, without a loop.
+fn few_out(rows: &[u32], from: u32, size: u32, more: u32, a: usize, b: usize) -> bool
     requires { ⌜ Window from size ⌝ }
     requires { ⌜ SomeThere (length (now rows)) a b ⌝ }
-    requires { ⌜ FewThere n a b ⌝ }
+    requires { ⌜ FewThere more a b ⌝ }
     ensures { λ r. ⌜ r ≡ some (rowOut (now (rows .entry)) from (from + size)) a b ⌝ }
 {
     if ends_out(rows, from, size, a, b) {
         return true;
     }
-    if n <= 2 {
-        return false;
-    }
     if ends_out(rows, from, size, a + 1, b - 1) {
         return true;
     }
-    if n <= 4 {
+    if more <= 3 {
         return false;
     }
     ends_out(rows, from, size, a + 2, b - 2)
@@ -157,19 +151,23 @@ fn rows_out(ptrs: &[u32], rows: &[u32], from: u32, size: u32, j: usize, a: usize
     some_row_out(rows, from, size, a, b)
 }
 
-// Whether one of places a up to b has, or they are not a few.
+// A span of no more entries after its first is looked at from both ends: to find its column costs more.
+const FEW_MORE: u32 = 5;
+
+// Whether one of places a up to b has, or they are not a few. Where there is none, one fewer than none wraps and is not a few.
 fn rows_stop(rows: &[u32], from: u32, size: u32, a: u32, b: u32) -> bool
     requires { ⌜ Window from size ⌝ }
     requires { ⌜ RunThere (length (now rows)) a b ⌝ }
     ensures { λ r. ⌜ r ≡ rowsStop (now (rows .entry)) from (from + size) a b ⌝ }
 {
-    if b <= a {
+    let more = wrapping_sub_u32(b - a, 1);
+    if more <= 1 {
+        return ends_out(rows, from, size, wide(a), wide(b));
+    }
+    if FEW_MORE < more {
         return true;
     }
-    if FEW_ENTRIES < b - a {
-        return true;
-    }
-    few_out(rows, from, size, b - a, wide(a), wide(b))
+    few_out(rows, from, size, more, wide(a), wide(b))
 }
 
 // The first of spans `at` up to `last` that has a row out or not a few entries. Good spans of a few, most of them, are passed in this small loop.
@@ -183,7 +181,7 @@ fn pass_few(
     last: usize,
 ) -> usize
     requires { ⌜ Window from size ⌝ }
-    requires { ⌜ RunsThere (length (now rows)) (now lo) (now hi) at last ⌝ }
+    requires { ⌜ EntriesThere (length (now rows)) (now lo) (now hi) at last ⌝ }
     ensures { λ r. ⌜ r ≡ first (rowsStopAt (now (rows .entry)) from (from + size) (now (lo .entry)) (now (hi .entry))) at last ⌝ }
 {
     let mut k = at;
@@ -209,7 +207,7 @@ fn some_rows_out(
 ) -> bool
     requires { ⌜ Risen (now ptrs) (now rows) ⌝ }
     requires { ⌜ Window from size ⌝ }
-    requires { ⌜ RunsThere (length (now rows)) (now lo) (now hi) first last ⌝ }
+    requires { ⌜ EntriesThere (length (now rows)) (now lo) (now hi) first last ⌝ }
     ensures { λ r. ⌜ r ≡ some (rowsOutAt (now (rows .entry)) from (from + size) (now (lo .entry)) (now (hi .entry))) first last ⌝ }
 {
     let mut j: usize = 0;
@@ -347,18 +345,6 @@ fn some_chunk_bad(
     false
 }
 
-// Whether a chunk's start is above the next one's.
-fn some_start_falls(starts: &[u32], chunks: usize) -> bool
-    requires { ⌜ StartsThere (length (now starts)) chunks ⌝ }
-    ensures { λ r. ⌜ r ≡ some (falls (now (starts .entry))) 0 chunks ⌝ }
-{
-    let mut bad = false;
-    for c in 0..chunks {
-        bad = bad | (starts[c + 1] < starts[c]);
-    }
-    bad
-}
-
 // Whether the starts do not rise from 0 to the span count n without falling.
 fn starts_bad(starts: &[u32], chunks: usize, n: usize) -> bool
     requires { ⌜ StartsThere (length (now starts)) chunks ⌝ }
@@ -367,7 +353,7 @@ fn starts_bad(starts: &[u32], chunks: usize, n: usize) -> bool
     if starts[0] != 0 {
         return true;
     }
-    if some_start_falls(starts, chunks) {
+    if some_pointer_falls(starts) {
         return true;
     }
     wide(starts[chunks]) != n

@@ -307,6 +307,13 @@ module _ (κs : Lfts 22) (a : _) (t : _) (k n : ℕ) (made : plan.Post κs a (pl
       ≡ sweptOn (signOf (sweepSide λs b)) (startRows (sweepSide λs b) (sweepRows λs b)) (sideTerms (sweepOver λs b .columns) (sideOf (sweepSide λs b) (sweepOver λs b .kept) (sweepOver λs b .elims)) (sweepVector λs b))
   planned-sweep λs b u q post same ok = sweep-rows λs b u q post (lent-carried κs a t k n made (sweepSide λs b) (sweepOver λs b) same) ok
 
+  -- so do steps one after the other, where all else fits and the order serves each chunk as often as it has spans
+  pub planned-steps : (λs : ℕ → Lfts 13) (b : (i : ℕ) → ArgsD stepping.signature (λs i)) (u : (i : ℕ) → AtExit (endedOf 13 stepKinds.ps stepKinds.r) (λs i)) (q : ℕ → Answer) (e : Bool) (l : OverPlan) (v : List Float) (order map : List ℕ) (rows : List Float)
+      → ((i : ℕ) → i < length order → step.Post (λs i) (b i) (q i) (u i)) → Chain λs b u e l v order map rows → l ≡ planOver κs a t k n e
+      → SweepFits (l .columns) (sideOf e (l .kept) (l .elims)) (l .len) map v rows (replicate (chunkCount (l .columns .nrows) (l .len)) 0) → Serves (chunkCount (l .columns .nrows) (l .len)) (l .lists) order
+      → (i : ℕ) → suc i ≡ length order → stepRowsLeft (λs i) (u i) ≡ sweptOn (signOf e) (startRows e rows) (sideTerms (l .columns) (sideOf e (l .kept) (l .elims)) v)
+  planned-steps λs b u q e l v order map rows post c same f x i last = steps-rows λs b u q e l v order map rows post c (lent-carried κs a t k n made e l same) f x i last
+
   -- and the operator leaves document 01's sums
   pub planned-operator : (λs : Lfts 21) (b : _) (u : _) (q : Answer) → operator.Post λs b q u → ((e : Bool) → operatorOver λs b e ≡ planOver κs a t k n e) → told q ≡ done
       → operatorWorkLeft λs u

@@ -19,23 +19,20 @@ abbrev μ-loop : tie.MeasureT-loop
 loop-holds : tie.Need-loop-holds Inv-loop μ-loop
 loop-holds c = (search checking, rw (c .column-count .ensures))
 
-column-bad-requires : tie.Need-column-bad-requires Inv-loop μ-loop
-column-bad-requires c κs = rw (c .before .first-place .ensures, c .end-place .ensures) (column-run (c .before .before .before .before .before .before .before .before .pre) (c .before .before .before .loop .j) (rw (c .before .before .before .before .column-count .ensures) at (c .before .before .loop-test .taken)))
-
 bad-place-requires : tie.Need-bad-place-requires Inv-loop μ-loop
-bad-place-requires c κs = rw (c .before .before .before .first-place .ensures, c .before .before .end-place .ensures) (column-run (c .before .before .before .before .before .before .before .before .before .before .pre) (c .before .before .before .before .before .loop .j) (rw (c .before .before .before .before .before .before .column-count .ensures) at (c .before .before .before .before .loop-test .taken)))
+bad-place-requires c κs = rw (c .before .first-place .ensures, c .end-place .ensures) (column-run (c .before .before .before .before .before .before .before .before .pre) (c .before .before .before .loop .j) (rw (c .before .before .before .before .column-count .ensures) at (c .before .before .loop-test .taken)))
 
 returns : tie.Need-returns Inv-loop μ-loop
 returns c =
-    let l = c .before .before .before .before .before .before in
-    bad-row-at _ (l .loop .j) _ (l .before .column-count .ensures) _ _ (c .before .before .before .before .first-place .ensures) (c .before .before .before .end-place .ensures) _ (c .before .before .column-bad .ensures) _ (c .before .before .before .before .before .loop-test .taken) (l .loop .inv .1) (c .before .if1 .taken) (c .bad-place .ensures)
+    let l = c .before .before .before .before .before in
+    bad-row-at _ (l .loop .j) _ (l .before .column-count .ensures) _ _ (c .before .before .before .first-place .ensures) (c .before .before .end-place .ensures) _ (c .before .bad-place .ensures) (c .before .before .before .before .loop-test .taken) (l .loop .inv .1) (c .if1 .taken)
 
 loop-again : tie.Need-loop-again Inv-loop μ-loop
 loop-again c =
     let l = c .before .before .before .before .before in (
       search checking,
       first-turn _ (c .before .before .before .before .loop-test .taken) (l .loop .inv .1)
-          (column-good _ (l .loop .j) _ (l .before .column-count .ensures) _ _ (c .before .before .before .first-place .ensures) (c .before .before .end-place .ensures) _ (c .before .column-bad .ensures) (c .if1 .left)),
+          (column-good _ (l .loop .j) _ (l .before .column-count .ensures) _ _ (c .before .before .before .first-place .ensures) (c .before .before .end-place .ensures) _ (c .before .bad-place .ensures) (c .if1 .left)),
     )
 
 returns-2 : tie.Need-returns-2 Inv-loop μ-loop
@@ -46,5 +43,5 @@ returns-2 c =
 pub bad-row-spec : {M : Type 1} → statement M
 bad-row-spec =
     tie.close (tie.spec
-    Inv-loop μ-loop (λ c κs. search checking) loop-holds (λ c κs. search checking) (λ c κs. search checking) column-bad-requires
-    bad-place-requires returns (λ c. search checking) (λ c. search checking) loop-again returns-2)
+    Inv-loop μ-loop (λ c κs. search checking) loop-holds (λ c κs. search checking) (λ c κs. search checking) bad-place-requires
+    returns (λ c. search checking) (λ c. search checking) loop-again returns-2)

@@ -6,6 +6,6 @@ use Rattle.products.proofs.plan_check.few_out.Tie as tie
 pub few-out-spec : {M : Type 1} → statement M
 few-out-spec =
     tie.close (tie.spec
-    (λ c κs. search planning) (λ c. search planning) (λ c. search planning) (λ c. search planning) (λ c. search planning)
-    (λ c κs. search planning) (λ c. search planning) (λ c. search planning) (λ c. search planning) (λ c. search planning)
-    (λ c κs. search planning) (λ c. search planning))
+    (λ c κs. search planning) (λ c. search planning) (λ c. search planning) (λ c. search planning) (λ c κs. search planning)
+    (λ c. search planning) (λ c. search planning) (λ c. search planning) (λ c. search planning) (λ c κs. search planning)
+    (λ c. search planning))

@@ -6,5 +6,6 @@ use Rattle.products.proofs.plan_check.rows_stop.Tie as tie
 pub rows-stop-spec : {M : Type 1} → statement M
 rows-stop-spec =
     tie.close (tie.spec
-    (λ c. search planning) (λ c. search planning) (λ c. search planning) (λ c. search planning) (λ c κs. search planning)
-    (λ c κs. search planning) (λ c κs. search planning) (λ c. search planning))
+    (λ c. search planning) (λ c κs. search planning) (λ c κs. search planning) (λ c κs. search planning) (λ c κs. search planning)
+    (λ c. search planning) (λ c. search planning) (λ c κs. search planning) (λ c κs. search planning) (λ c κs. search planning)
+    (λ c. search planning))
