@@ -104,32 +104,15 @@ fn in_column(ptrs: &[u32], j: usize, a: usize, b: usize) -> bool
     b <= end_place(ptrs, j)
 }
 
-// How many columns after the one before are tried before they are halved.
-const NEXT_FEW: usize = 16;
-
 // A column to try for a span from a to b, after column j: mostly the next one, else the last that begins at a or before. Nothing rests on it but
 // time.
 fn guess_column(ptrs: &[u32], j: usize, a: usize, b: usize) -> usize {
-    let n = column_count(ptrs);
-    if n <= j {
+    if column_count(ptrs) <= j {
         return find_column(ptrs, a);
     }
     let next = j + 1;
     if in_column(ptrs, next, a, b) {
         return next;
-    }
-    if a < first_place(ptrs, j) {
-        return find_column(ptrs, a);
-    }
-    let mut at = j;
-    for _ in 0..NEXT_FEW {
-        if n <= at + 1 {
-            return at;
-        }
-        if a < first_place(ptrs, at + 1) {
-            return at;
-        }
-        at = at + 1;
     }
     find_column(ptrs, a)
 }

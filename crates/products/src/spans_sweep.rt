@@ -25,14 +25,14 @@ pub(crate) fn do_span(
     requires { ⌜ SpanFits (now rows) (length (now values)) (length (now v)) (length (now y)) (now lo) (now hi) (now local) k ⌝ }
     ensures { λ _. ⌜ now (y .exit) ≡ sweptOn sign (now (y .entry)) (spanTerms (entriesOnly (now (rows .entry)) (now (values .entry))) (spansOnly (now (lo .entry)) (now (hi .entry)) (now (local .entry))) (now (v .entry)) k) ⌝ }
 {
-    let l = wide(local[k]);
+    let x = v[wide(local[k])];
     let a = wide(lo[k]);
     let b = wide(hi[k]);
     if b == a + 2 {
-        sweep_entries(sign, rows, values, v[l], a, a + 2, y);
+        sweep_entries(sign, rows, values, x, a, a + 2, y);
         return;
     }
-    sweep_entries(sign, rows, values, v[l], a, b, y);
+    sweep_entries(sign, rows, values, x, a, b, y);
 }
 
 // All spans in their order.
