@@ -9,7 +9,7 @@ use Rattle.columns.specs.Refusals.{tell, done}
 use Rattle.columns.specs.Columns.{checked}
 use Rattle.columns.specs.JacobianOps.{columnDot, diagJtJ}
 use Rattle.blocks.specs.Claims.{mark}
-use Rattle.plan.specs.Plan.{buffers, lent, planned}
+use Rattle.plan.specs.Plan.{Buffers, buffers, lent, planned}
 use Rattle.products.specs.Operator.{keptRows, schurOperator}
 use Rattle.products.specs.Couplings.{coupling}
 use Rattle.hall.specs.Hall.{f, half, hall, moved, repeated, kept, elims, owners, rowLists, visible, keptLists, elimsLists, v, firstRows, t, u, lastRows, operands, unusedMap, unusedRows, unusedBuffers, unusedWork, sweptAlong}
@@ -25,15 +25,20 @@ marked = mark ∷ mark ∷ mark ∷ []
 abbrev pub past : List ℕ → ℕ → List ℕ
 past l n = l ++ replicate n 7
 
+-- all buffers after cases 1 and 2
+abbrev pub planLists : Buffers
+planLists =
+    buffers filled (0 ∷ 7 ∷ 7 ∷ []) (1 ∷ 2 ∷ 7 ∷ []) (0 ∷ 1 ∷ 7 ∷ []) owners
+    (past (rowLists .list) 1) (rowLists .starts) (past (visible .list) 6) (visible .starts)
+    (keptLists .starts) (past (keptLists .lo) 5) (past (keptLists .hi) 5) (past (keptLists .local) 5)
+    (elimsLists .starts) (past (elimsLists .lo) 5) (past (elimsLists .hi) 5) (past (elimsLists .local) 5)
+
 pub record HallTable : Type 0 where
   -- 1 and 2: the plan, in chunks of two rows
   pub plan : planned hall kept elims 2 unusedBuffers
       ≡ record {
         told = tell 0 (3 ∷ 3 ∷ []);
-        left = buffers filled (0 ∷ 7 ∷ 7 ∷ []) (1 ∷ 2 ∷ 7 ∷ []) (0 ∷ 1 ∷ 7 ∷ []) owners
-            (past (rowLists .list) 1) (rowLists .starts) (past (visible .list) 6) (visible .starts)
-            (keptLists .starts) (past (keptLists .lo) 5) (past (keptLists .hi) 5) (past (keptLists .local) 5)
-            (elimsLists .starts) (past (elimsLists .lo) 5) (past (elimsLists .hi) 5) (past (elimsLists .local) 5);
+        left = planLists;
       }
   -- 3: the rows after the kept sweep; the operator, and with damping 0.5
   pub kept-rows : keptRows hall keptLists v ≡ firstRows

@@ -3,14 +3,13 @@
 -- parameters at exit. Assumes nothing.
 use mathlib.Core.Path.{_≡_, refl, sym, ap, _∙_}
 use mathlib.Core.Bool.{cond}
-use mathlib.Core.List.{[], _∷_}
 use lib.Dec.{eqb}
 use lib.ListN.{length, getD}
 use contract.Lifetimes.{Lfts}
 use Rattle.ground.specs.Determined.{Determined}
 use Rattle.ground.proofs.DeterminedLaws.{by-equation}
 use Rattle.columns.specs.declared.refusal.Answer.{Answer}
-use Rattle.columns.specs.Refusals.{Told, tell, told}
+use Rattle.columns.specs.Refusals.{Told, told}
 use Rattle.columns.proofs.RefusalLaws.{refusalOf, refusal-back, number-some, answerOf, answer-back}
 use Rattle.plan.specs.declared.structure.Planned.{Planned}
 use Rattle.plan.specs.declared.structure.Planned.the-variants.{Done, Refused}
@@ -65,9 +64,12 @@ module _ (κs : Lfts 22) (a : _) (t : _) (p : Planned) (kept : plan.Post κs a p
     pub plan-refused : toldPlan p .number ≡ 10 → Connects (planColumns κs a) (planElims κs a)
     plan-refused e = refused-connected (planColumns κs a) (planKept κs a) (planElims κs a) (planLen κs a) (planLent κs a) sound (sym (ap (λ (w : Told). w .number) plan-tells) ∙ e)
 
-    pub plan-counts : (Connects (planColumns κs a) (planElims κs a) → ⊥)
-        → toldPlan p ≡ tell 0 (length (sideSpans (planColumns κs a) (planKept κs a) (planLen κs a)) ∷ length (sideSpans (planColumns κs a) (planElims κs a) (planLen κs a)) ∷ [])
-    plan-counts ne = plan-tells ∙ unconnected-planned (planColumns κs a) (planKept κs a) (planElims κs a) (planLen κs a) (planLent κs a) sound ne
+    -- no such row: the answer is done, with both sides' span counts
+    pub plan-answers : (Connects (planColumns κs a) (planElims κs a) → ⊥)
+        → p ≡ Done (length (sideSpans (planColumns κs a) (planKept κs a) (planLen κs a))) (length (sideSpans (planColumns κs a) (planElims κs a) (planLen κs a)))
+    unfolding plannedOf
+    plan-answers ne =
+        sym (planned-back p) ∙ ap plannedOf (plan-tells ∙ unconnected-planned (planColumns κs a) (planKept κs a) (planElims κs a) (planLen κs a) (planLent κs a) sound ne)
 
     pub plan-made : (Connects (planColumns κs a) (planElims κs a) → ⊥) → planLeaves κs t ≡ planOf (planColumns κs a) (planKept κs a) (planElims κs a) (planLen κs a) (planLent κs a)
     plan-made ne = plan-leaves ∙ unconnected-left (planColumns κs a) (planKept κs a) (planElims κs a) (planLen κs a) (planLent κs a) sound ne

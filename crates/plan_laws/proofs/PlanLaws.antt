@@ -46,6 +46,14 @@ ten m elims = go (ltb (firstClash (sideEntries m elims)) (length (sideEntries m 
     go true e = inr (rw e)
     go false e = inl (rw e)
 
+-- some row has entries of two eliminated blocks, or none has
+pub connects-or-not : (m : Columns) (elims : List ℕ) → Connects m elims ⊎ (Connects m elims → ⊥)
+connects-or-not m elims = go (ten m elims)
+  where
+    go : (planConnected m elims .number ≡ 0) ⊎ (planConnected m elims .number ≡ 10) → Connects m elims ⊎ (Connects m elims → ⊥)
+    go (inl e) = inr (λ c. (let q = connects-told m elims c in omega arith))
+    go (inr e) = inl (told-connects m elims e)
+
 module _ (m : Columns) (kept elims : List ℕ) (len : ℕ) (b : Buffers) (s : Sound m kept elims len b) where
   early-done : planEarly m kept elims len b ≡ done
   unfolding onPass

@@ -9,4 +9,3 @@ pub mod OrderWalk
 pub mod SweepCheck
 pub mod Operator
 pub mod OperatorCalls
-pub mod Steps

@@ -11,4 +11,6 @@ pub mod OperatorLaws
 pub mod TellLaws
 pub mod Calls
 pub mod Carried
+pub mod Closing
 pub mod Hall
+pub mod HallCalls

@@ -1,6 +1,6 @@
 -- Demand 2 of the operator: over the plan of both sides its rows, t, u and out are document 01's sums written without spans; so they do not hang on the
 -- chunk length. Assumes nothing.
-use mathlib.Core.Path.{_≡_, sym, ap, _∙_}
+use mathlib.Core.Path.{_≡_, sym, _∙_}
 use mathlib.Core.Bool.{true, false}
 use mathlib.Core.List.{List}
 use Prim.Native.Nat.{ℕ}

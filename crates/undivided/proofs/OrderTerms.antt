@@ -20,11 +20,11 @@ use Rattle.plan.specs.SpanWalk.{Chunked, ColumnRises}
 use Rattle.plan.proofs.ChunkLaws.{chunk-there}
 use Rattle.products.specs.Orders.{spanTerms, spanCount, served, badOrder, orderTerms}
 use Rattle.products.specs.SideSums.{sideTerms}
-use Rattle.undivided.specs.Undivided.{rowOf, ownTerms, Planned}
+use Rattle.undivided.specs.Undivided.{rowOf, ownTerms, PlanLists}
 use Rattle.undivided.proofs.PlanTerms.{starts-rise, chunk-terms, other-span}
 use Rattle.undivided.proofs.OrderLaws.{Next, served-none, served-same, served-other, accepted-next, accepted-serves}
 
-module _ (m : Columns) (side : List ℕ) (len : ℕ) (h : Chunked (m .nrows) len) (f : (l : ℕ) → l < sideDof side → ColumnRises (m .ptrs) (m .rows) (m .nrows) (getD (cols side) l 0)) (s : Spread) (g : Planned m side len s) (v : List Float) (r : ℕ) where
+module _ (m : Columns) (side : List ℕ) (len : ℕ) (h : Chunked (m .nrows) len) (f : (l : ℕ) → l < sideDof side → ColumnRises (m .ptrs) (m .rows) (m .nrows) (getD (cols side) l 0)) (s : Spread) (g : PlanLists m side len s) (v : List Float) (r : ℕ) where
   abbrev chunks : ℕ
   chunks = chunkCount (m .nrows) len
 

@@ -19,14 +19,14 @@ use Rattle.plan.specs.Spans.{chunkCount, placeIn, chunkSpans, sideSpans, Spread
 use Rattle.plan.specs.SpanWalk.{Chunked, ColumnRises}
 use Rattle.plan.specs.Plan.{Buffers, planOf}
 use Rattle.products.specs.Orders.{entryOut, spanBad, chunkBad, startsBad, planBad, badPlan}
-use Rattle.undivided.specs.Undivided.{Planned, cut, listsOf, Lengths}
+use Rattle.undivided.specs.Undivided.{PlanLists, cut, listsOf, Lengths}
 use Rattle.undivided.proofs.PlanTerms.{start-at, starts-rise, starts-length, lo-length, hi-length, local-length, spanOf, among}
 
 -- ---- what the planner leaves
 
 -- lists that begin with a side's spans, cut
 pub spread-planned : (m : Columns) (side : List ℕ) (len : ℕ) (b : Spread)
-    → Planned m side len (cut (chunkCount (m .nrows) len) (length (sideSpans m side len)) (spread (chunkSpans m side len) (chunkCount (m .nrows) len) b))
+    → PlanLists m side len (cut (chunkCount (m .nrows) len) (length (sideSpans m side len)) (spread (chunkSpans m side len) (chunkCount (m .nrows) len) b))
 unfolding spread
 spread-planned m side len b = record {
   starts-are = take-at (startsOf (chunkSpans m side len) (chunkCount (m .nrows) len)) _ (chunkCount (m .nrows) len + 1) (length-listOf (λ c. length (flat (chunkSpans m side len) c)) 0 (chunkCount (m .nrows) len + 1));
@@ -37,7 +37,7 @@ spread-planned m side len b = record {
 
 -- so are each side's of a plan
 pub plan-planned : (m : Columns) (kept elims : List ℕ) (len : ℕ) (b : Buffers) (e : Bool)
-    → Planned m (sideOf e kept elims) len
+    → PlanLists m (sideOf e kept elims) len
     (cut (chunkCount (m .nrows) len) (length (sideSpans m (sideOf e kept elims) len)) (listsOf e (planOf m kept elims len b)))
 unfolding planOf
 plan-planned m kept elims len b true = spread-planned m elims len (b .elims)
@@ -45,14 +45,14 @@ plan-planned m kept elims len b false = spread-planned m kept len (b .kept)
 
 -- ---- 11 and 13
 
-pub planned-lengths : (m : Columns) (side : List ℕ) (len : ℕ) (s : Spread) → Planned m side len s → Lengths (chunkCount (m .nrows) len) s
+pub planned-lengths : (m : Columns) (side : List ℕ) (len : ℕ) (s : Spread) → PlanLists m side len s → Lengths (chunkCount (m .nrows) len) s
 planned-lengths m side len s g = record {
   starts = starts-length m side len s g;
   hi = hi-length m side len s g ∙ sym (lo-length m side len s g);
   local = local-length m side len s g ∙ sym (lo-length m side len s g);
 }
 
-module _ (m : Columns) (side : List ℕ) (len : ℕ) (h : Chunked (m .nrows) len) (f : (l : ℕ) → l < sideDof side → ColumnRises (m .ptrs) (m .rows) (m .nrows) (getD (cols side) l 0)) (s : Spread) (g : Planned m side len s) where
+module _ (m : Columns) (side : List ℕ) (len : ℕ) (h : Chunked (m .nrows) len) (f : (l : ℕ) → l < sideDof side → ColumnRises (m .ptrs) (m .rows) (m .nrows) (getD (cols side) l 0)) (s : Spread) (g : PlanLists m side len s) where
   abbrev chunks : ℕ
   chunks = chunkCount (m .nrows) len
 

@@ -21,12 +21,12 @@ use Rattle.plan.proofs.ChunkLaws.{chunk-there}
 use Rattle.plan_laws.proofs.SpanLaws.{spans-are}
 use Rattle.products.specs.Orders.{spanTerms, planTerms}
 use Rattle.products.specs.SideSums.{sideTerms}
-use Rattle.undivided.specs.Undivided.{rowOf, ownTerms, chunkTerms, Planned}
+use Rattle.undivided.specs.Undivided.{rowOf, ownTerms, chunkTerms, PlanLists}
 use Rattle.undivided.proofs.SpanTerms.{termsOf, span-quiet, chunk-quiet, chunk-own}
 
 -- ---- the lists
 
-module _ (m : Columns) (side : List ℕ) (len : ℕ) (s : Spread) (g : Planned m side len s) where
+module _ (m : Columns) (side : List ℕ) (len : ℕ) (s : Spread) (g : PlanLists m side len s) where
   abbrev chunks : ℕ
   chunks = chunkCount (m .nrows) len
 
@@ -95,7 +95,7 @@ spanOf s k = record { lo = getD (s .lo) k 0; hi = getD (s .hi) k 0; local = getD
 
 -- between two starts it is one of chunk c's spans
 pub among : (m : Columns) (side : List ℕ) (len : ℕ) → Chunked (m .nrows) len → ((l : ℕ) → l < sideDof side → ColumnRises (m .ptrs) (m .rows) (m .nrows) (getD (cols side) l 0))
-    → (s : Spread) → Planned m side len s → (c k : ℕ) → c < chunkCount (m .nrows) len → getD (s .starts) c 0 ≤ k → k < getD (s .starts) (c + 1) 0 → SpanIs m (cols side) (sideDof side) len c (spanOf s k)
+    → (s : Spread) → PlanLists m side len s → (c k : ℕ) → c < chunkCount (m .nrows) len → getD (s .starts) c 0 ≤ k → k < getD (s .starts) (c + 1) 0 → SpanIs m (cols side) (sideDof side) len c (spanOf s k)
 among m side len h f s g c k q a b =
     rw (lo-at m side len s g k, hi-at m side len s g k, local-at m side len s g k, here)
     (all-at (SpanIs m (cols side) (sideDof side) len c) _ (chunkSpans m side len c) i (spans-are m (cols side) (sideDof side) len h f c) below)
@@ -113,7 +113,7 @@ among m side len h f s g c k q a b =
 
 -- ---- row by row
 
-module _ (m : Columns) (side : List ℕ) (len : ℕ) (h : Chunked (m .nrows) len) (f : (l : ℕ) → l < sideDof side → ColumnRises (m .ptrs) (m .rows) (m .nrows) (getD (cols side) l 0)) (s : Spread) (g : Planned m side len s) (v : List Float) (r : ℕ) where
+module _ (m : Columns) (side : List ℕ) (len : ℕ) (h : Chunked (m .nrows) len) (f : (l : ℕ) → l < sideDof side → ColumnRises (m .ptrs) (m .rows) (m .nrows) (getD (cols side) l 0)) (s : Spread) (g : PlanLists m side len s) (v : List Float) (r : ℕ) where
   side-own : ownTerms r (each (termsOf m v) (chunkSpans m side len (r / len))) ≡ ownTerms r (sideTerms m side v)
   unfolding sideTerms
   side-own = chunk-own m (cols side) (sideDof side) len h f v r

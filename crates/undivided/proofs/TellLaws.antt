@@ -15,7 +15,6 @@ use Rattle.columns.specs.Refusals.{Told, tell, done, onPass, orElse}
 use Rattle.columns.specs.Lengths.{lengthOf, needOf, pairBad, badPair, pairsTold, noRoom, wrongLength}
 use Rattle.columns.specs.Columns.{Columns, columnCount, Keeps}
 use Rattle.columns.proofs.RefusalLaws.{or-done}
-use Rattle.columns.proofs.CallLaws.{room-done}
 use Rattle.blocks.specs.Sides.{sideOf}
 use Rattle.blocks.specs.Claims.{Parted}
 use Rattle.blocks.proofs.PartLaws.{parted-parts, parted-late}
@@ -24,6 +23,7 @@ use Rattle.plan.specs.SpanWalk.{Chunked}
 use Rattle.plan_laws.proofs.PlanLaws.{chunk-done}
 use Rattle.products.specs.Orders.{badPlan, hasNext, placeBad, chunkLeft, badOrder, stepOrder, earlyChunked, lateBlocks, sweepLengths, sweepTold}
 use Rattle.products.specs.Operator.{Operands, Work, operatorLengths, operatorTold}
+use Rattle.product_laws.proofs.StepLaws.{one-room}
 use Rattle.undivided.specs.Undivided.{SidePlanned, SweepFits, OperatorFits}
 use Rattle.undivided.proofs.Demand3.{plan-passes, plan-lengths}
 
@@ -37,13 +37,6 @@ same-good pairs k e = rw (le-ltb (lengthOf pairs k) (needOf pairs k) (omega arit
 pub lengths-done : (pairs : List ℕ) → ((k : ℕ) → k < length pairs / 2 → lengthOf pairs k ≡ needOf pairs k) → wrongLength pairs ≡ done
 unfolding pairsTold
 lengths-done pairs h = rw (none-past (pairBad true pairs) 0 (length pairs / 2) (λ k _ l. same-good pairs k (h k l)))
-
-one-room : (n k : ℕ) → k ≤ n → noRoom (n ∷ k ∷ []) ≡ done
-one-room n k h = room-done (n ∷ k ∷ []) fine
-  where
-    fine : (i : ℕ) → i < 1 → needOf (n ∷ k ∷ []) i ≤ lengthOf (n ∷ k ∷ []) i
-    fine zero l = h
-    fine (suc i) l = absurd (omega arith)
 
 -- a call that looks at the map's room, then at lengths, then at something else
 module _ (room pairs : List ℕ) (rest : Told) where

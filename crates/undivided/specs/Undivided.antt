@@ -10,7 +10,7 @@ use Rattle.ground.specs.Gather.{gather}
 use Rattle.ground.specs.Buckets.{bucket}
 use Rattle.columns.specs.declared.unchecked.Sign.{Sign}
 use Rattle.columns.specs.Columns.{Columns, columnCount, Keeps}
-use Rattle.columns.specs.Sums.{RowTerm, product, joined}
+use Rattle.columns.specs.Sums.{RowTerm, product, joined, sweptOn}
 use Rattle.blocks.specs.Sides.{sideDof, sideOf}
 use Rattle.blocks.specs.Claims.{Parted}
 use Rattle.blocks.specs.BlockValues.{valueCount}
@@ -18,7 +18,8 @@ use Rattle.plan.specs.Lists.{startsOf}
 use Rattle.plan.specs.Spans.{chunkCount, chunkSpans, sideSpans, Spread}
 use Rattle.plan.specs.SpanWalk.{Chunked}
 use Rattle.plan.specs.Plan.{Buffers}
-use Rattle.products.specs.Orders.{spanTerms, served, spanCount}
+use Rattle.products.specs.Orders.{spanTerms, served, spanCount, signOf}
+use Rattle.products.specs.SideSums.{sideTerms}
 use Rattle.products.specs.Operator.{Operands, Work, dampLength}
 
 -- ---- one row
@@ -45,7 +46,7 @@ abbrev pub chunkTerms : Columns → Spread → List Float → ℕ → List RowTe
 chunkTerms m s v c = gather (spanTerms m s v) (getD (s .starts) c 0) (getD (s .starts) (c + 1) 0)
 
 -- the four lists are the side's chunk starts, and the lo, hi and local of its spans: nothing less, and nothing more
-pub record Planned (m : Columns) (side : List ℕ) (len : ℕ) (s : Spread) : Type 0 where
+pub record PlanLists (m : Columns) (side : List ℕ) (len : ℕ) (s : Spread) : Type 0 where
   pub starts-are : s .starts ≡ startsOf (chunkSpans m side len) (chunkCount (m .nrows) len)
   pub lo-are : s .lo ≡ map (λ x. x .lo) (sideSpans m side len)
   pub hi-are : s .hi ≡ map (λ x. x .hi) (sideSpans m side len)
@@ -57,7 +58,7 @@ pub record SidePlanned (m : Columns) (kept elims : List ℕ) (e : Bool) (len : �
   pub keeps : Keeps m
   pub parted : Parted (columnCount m) kept elims
   pub chunked : Chunked (m .nrows) len
-  pub planned : Planned m (sideOf e kept elims) len s
+  pub planned : PlanLists m (sideOf e kept elims) len s
 
 -- four lists cut to their used parts, for n chunks and k spans
 abbrev pub cut : ℕ → ℕ → Spread → Spread
@@ -93,7 +94,33 @@ pub record OverPlan : Type 0 where
 abbrev pub PlannedOver : Bool → OverPlan → Type 0
 PlannedOver e l = SidePlanned (l .columns) (l .kept) (l .elims) e (l .len) (l .lists)
 
--- all else that a sweep or a step is lent has its length: the map has room, and v, rows and progress are as long as 11 asks
+-- that side's blocks, how many chunks there are, and the terms of its undivided sweep with v
+abbrev pub overSide : Bool → OverPlan → List ℕ
+overSide e l = sideOf e (l .kept) (l .elims)
+
+abbrev pub overChunks : OverPlan → ℕ
+overChunks l = chunkCount (l .columns .nrows) (l .len)
+
+abbrev pub overTerms : Bool → OverPlan → List Float → List RowTerm
+overTerms e l v = sideTerms (l .columns) (overSide e l) v
+
+-- an order serves each chunk as often as it has spans
+abbrev pub ServesOver : OverPlan → List ℕ → Type 0
+ServesOver l order = Serves (overChunks l) (l .lists) order
+
+-- terms ts were added to rows y, or on the eliminated side subtracted, and left these rows: each row got the same terms in the same order as by one
+-- undivided sweep of the side over y, column by column in block order, and so the rows are that sweep's
+pub record Undivided (e : Bool) (l : OverPlan) (v y : List Float) (ts : List RowTerm) (rows : List Float) : Type 0 where
+  pub added : rows ≡ sweptOn (signOf e) y ts
+  pub terms : (r : ℕ) → r < l .columns .nrows → ownTerms r ts ≡ ownTerms r (overTerms e l v)
+  pub same-rows : rows ≡ sweptOn (signOf e) y (overTerms e l v)
+
+-- v and the rows have the lengths that 11 asks
+pub record VectorsFit (e : Bool) (l : OverPlan) (v y : List Float) : Type 0 where
+  pub v-fits : length v ≡ sideDof (overSide e l)
+  pub rows-fit : length y ≡ l .columns .nrows
+
+-- all else that a sweep is lent has its length: the map has room, and v, rows and progress are as long as 11 asks
 pub record SweepFits (m : Columns) (side : List ℕ) (len : ℕ) (map : List ℕ) (v rows : List Float) (progress : List ℕ) : Type 0 where
   pub map-fits : columnCount m ≤ length map
   pub v-fits : length v ≡ sideDof side
