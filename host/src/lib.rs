@@ -1,8 +1,8 @@
 //! The Rust side of Pivotfern.
 //!
-//! The proved crates are one archive of C functions on numbers and slices. This package gives them Rust's types: what a caller lends is
-//! borrowed, a refusal is an enum with words, and a [`Plan`] owns its lists. Nothing here is proved, so it is kept thin: it makes room, calls,
-//! and cuts lists to their used parts. Every check is on the other side.
+//! The proved crates are two archives of C functions on numbers and slices: `edge`, and `edge_compare` for the comparison. This package gives them
+//! Rust's types: what a caller lends is borrowed, a refusal is an enum with words, and a [`Plan`] owns its lists. Nothing here is proved, so it is
+//! kept thin: it makes room, calls, and cuts lists to their used parts. Every check is on the other side.
 //!
 //! | module | what for |
 //! |---|---|

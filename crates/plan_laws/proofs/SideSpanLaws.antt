@@ -38,14 +38,14 @@ module _ (m : Columns) (kept elims : List ℕ) (k : Keeps m) (d : Parted (column
       go (no u) (no v) = omega arith
 
   module _ (len : ℕ) (h : Chunked (m .nrows) len) where
-    -- (c) each span of a chunk has an entry, and has just its column's entries in the chunk
+    -- each span of a chunk has an entry, and has just its column's entries in the chunk
     pub side-are : (c : ℕ) → All (SpanIs m (cols side) (sideDof side) len c) (chunkSpans m side len c)
     side-are c = spans-are m (cols side) (sideDof side) len h rises c
 
-    -- (c) each entry of the side lies in exactly one of its spans, that of its chunk and local number
+    -- each entry of the side lies in exactly one of its spans, that of its chunk and local number
     pub side-in-one : (l p : ℕ) → EntryIn m (cols side) (sideDof side) l p → InOne m (cols side) (sideDof side) len (getD (m .rows) p 0 / len) l p
     side-in-one l p x = in-one m (cols side) (sideDof side) len h rises p (side-apart p) l x
 
-    -- (e) no more spans than the columns have entries
+    -- no more spans than the columns have entries
     pub side-few : length (sideSpans m side len) ≤ entryCount m
     side-few = omega (arith, spans-few m (cols side) (sideDof side) len h rises, side-entries m kept elims k d e)

@@ -133,7 +133,7 @@ module _ (m : Columns) (cs : List ℕ) (n len : ℕ) (h : Chunked (m .nrows) len
           go (yes w) = absurd (let z : _≡_ {A = ℕ} 0 1 = cc (first-before (placeIn m len c) a b p (e .low) w, q) in omega arith)
           go (no w) = omega arith
 
-  -- (c) a chunk's spans: each has an entry, and has just its column's entries in the chunk
+  -- a chunk's spans: each has an entry, and has just its column's entries in the chunk
   pub spans-are : (c : ℕ) → All (SpanIs m cs n len c) (localSpans m cs n len c)
   unfolding localSpans
   spans-are c = all-gather (SpanIs m cs n len c) (λ l. columnSpan m len c l (getD cs l 0)) 0 n (λ l _ g. go l g (some (placeIn m len c) (firstPlace m (getD cs l 0)) (endPlace m (getD cs l 0))) refl)
@@ -142,7 +142,7 @@ module _ (m : Columns) (cs : List ℕ) (n len : ℕ) (h : Chunked (m .nrows) len
       go l g true e = rw (column-one m len c l (getD cs l 0) e) (column-is c l g e, tt)
       go l g false e = rw (column-none m len c l (getD cs l 0) e) tt
 
-  -- (e) no more spans than entries
+  -- no more spans than entries
   pub spans-few : length (allSpans m cs n len) ≤ entriesIn (m .ptrs) cs n
   spans-few =
       let e : bucketed (chunkOf (m .rows) len) (chunkCount (m .nrows) len) (sideRuns (m .ptrs) (m .rows) cs len n) ≡ allSpans m cs n len =
@@ -201,7 +201,7 @@ module _ (m : Columns) (cs : List ℕ) (n len : ℕ) where
         is = rw (chunk-is c) (ap (λ (k : ℕ). spanIn (gather (part c) 0 n) k) (r .is) ∙ gather-at _ (part c) (r .block) n (r .offset) (r .below) (r .inside) ∙ rw (w .0, part-one c (r .block) (w .1)));
       }
 
-  -- (c) in a chunk local numbers strictly ascend
+  -- in a chunk local numbers strictly ascend
   pub locals-rise : (c i k : ℕ) → i < k → k < length (localSpans m cs n len c) → spanIn (localSpans m cs n len c) i .local < spanIn (localSpans m cs n len c) k .local
   locals-rise c i k h g =
       let x = local-at c i (omega arith) in
@@ -270,7 +270,7 @@ module _ (m : Columns) (cs : List ℕ) (n len : ℕ) (h : Chunked (m .nrows) len
   entry-chunk : (c l p : ℕ) → l < n → placeIn m len c p ≡ true → chunkAt (m .rows) len p ≡ c
   entry-chunk c l p g e = place-chunk m len l (getD cs l 0) c (rises-runs (m .ptrs) (m .rows) (m .nrows) len (getD cs l 0) h (f l g)) p e
 
-  -- (c) they stand by chunk, and then by local number
+  -- they stand by chunk, and then by local number
   pub spans-order : (i k : ℕ) → i < k → k < length (allSpans m cs n len)
       → (chunkOf (m .rows) len (spanIn (allSpans m cs n len) i) < chunkOf (m .rows) len (spanIn (allSpans m cs n len) k))
       ⊎ ((chunkOf (m .rows) len (spanIn (allSpans m cs n len) i) ≡ chunkOf (m .rows) len (spanIn (allSpans m cs n len) k))
@@ -303,7 +303,7 @@ module _ (m : Columns) (cs : List ℕ) (n len : ℕ) (h : Chunked (m .nrows) len
           let u : i ≡ startOf m cs n len (y .chunk) + length (gather (part m cs n len (y .chunk)) 0 (x .local)) = rw e at (x .at) in
           absurd (omega (arith, y .at, part-before m cs n len (y .chunk) (y .local) (x .local) (omega arith)))
 
-  -- (c) where no entry is two columns', each lies in exactly one span: that of its chunk and local number
+  -- where no entry is two columns', each lies in exactly one span: that of its chunk and local number
   module _ (p : ℕ) (apart : (k l : ℕ) → EntryIn m cs n k p → EntryIn m cs n l p → k ≡ l) where
     pub in-one : (l : ℕ) → EntryIn m cs n l p → InOne m cs n len (getD (m .rows) p 0 / len) l p
     in-one l e = record {
