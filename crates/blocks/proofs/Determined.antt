@@ -1,47 +1,32 @@
 -- Any two outcomes that the promise of a public function of src/check.rt permits agree. `Post` is the contract's own reading, at the arguments a, the
 -- answer and the parameters at exit. Assumes nothing.
-use mathlib.Core.Path.{_≡_, sym, ap, _∙_}
+use mathlib.Core.Path.{_≡_, ap}
 use mathlib.Core.List.{List}
 use Prim.Native.Nat.{ℕ}
 use contract.Lifetimes.{Lfts}
 use denote.Ref.{now}
 use Rattle.ground.specs.Determined.{Determined}
-use Rattle.ground.proofs.DeterminedLaws.{by-equation}
+use Rattle.ground.proofs.DeterminedLaws.{by-equation, named}
 use Rattle.columns.specs.declared.refusal.Answer.{Answer}
-use Rattle.columns.specs.Refusals.{Told, told}
-use Rattle.columns.proofs.RefusalLaws.{answerOf, answer-back}
+use Rattle.columns.specs.Refusals.{told}
+use Rattle.columns.proofs.RefusalLaws.{answerOf, answer-back, told-determined}
 use Rattle.blocks.specs.Claims.{Mapped}
-use Rattle.blocks.proofs.check.check_lists.Reads as lists
-use Rattle.blocks.proofs.check.empty_side.Reads as empty
 use Rattle.blocks.proofs.check.check_parts.Reads as parts
-use Rattle.blocks.proofs.check.check_early.Reads as early
 use Rattle.blocks.proofs.check.mark_map.Reads as marks
 use Rattle.blocks.proofs.check.walk_blocks.Reads as walk
 use Rattle.blocks.proofs.check.check_blocks.Reads as blocks
 
--- what is told, and what is told with the map that is left
-pub told-determined : (t : Told) → Determined (λ (a : Answer). told a ≡ t)
-told-determined = by-equation told answerOf answer-back
-
+-- what is told with the map that is left
 pub mapped-determined : (w : Mapped) → Determined (λ (o : Answer × List ℕ). record { told = told (o .0); map = o .1 } ≡ w)
 mapped-determined =
     by-equation (λ (o : Answer × List ℕ). record { told = told (o .0); map = o .1 }) (λ (w : Mapped). (answerOf (w .told), w .map))
     (λ o. ap (λ (a : Answer). (a, o .1)) (answer-back (o .0)))
 
-pub check-lists : (κs : Lfts 2) (a : _) (s t : _) (p q : Answer) → lists.Post κs a p s → lists.Post κs a q t → p ≡ q
-check-lists κs a s t p q = told-determined _ p q
-
-pub empty-side : (κs : Lfts 2) (a : _) (s t : _) (p q : Answer) → empty.Post κs a p s → empty.Post κs a q t → p ≡ q
-empty-side κs a s t p q = told-determined _ p q
-
 pub check-parts : (κs : Lfts 5) (a : _) (s t : _) (p q : Answer) → parts.Post κs a p s → parts.Post κs a q t → p ≡ q
 check-parts κs a s t p q = told-determined _ p q
 
-pub check-early : (κs : Lfts 6) (a : _) (s t : _) (p q : Answer) → early.Post κs a p s → early.Post κs a q t → p ≡ q
-check-early κs a s t p q = told-determined _ p q
-
 pub mark-map : (κs : Lfts 1) (a : _) (s t : _) (p q : _) → marks.Post κs a p s → marks.Post κs a q t → now (s .0) ≡ now (t .0)
-mark-map κs a s t p q x y = x ∙ sym y
+mark-map κs a s t p q = named _ (now (s .0)) (now (t .0))
 
 pub walk-blocks : (κs : Lfts 3) (a : _) (s t : _) (p q : Answer) → walk.Post κs a p s → walk.Post κs a q t
     → _≡_ {A = Answer × List ℕ} (p, now (s .1 .1 .1 .0)) (q, now (t .1 .1 .1 .0))

@@ -1,5 +1,6 @@
--- Any two outcomes that the contract of damping, a lookup or block access permits agree. `reads.Post` is the contract's own reading: at the
--- arguments a, the result and the parameters as the call leaves them. Each is the general law `by-equation`. Assumes nothing.
+-- Any two outcomes that the contract of damping, a lookup or block access permits agree. `Post` is the contract's own reading: at the
+-- arguments a, the result and the parameters as the call leaves them. Each is the general law `by-equation`, or `named`, where the contract
+-- names the result. Assumes nothing.
 use mathlib.Core.Path.{_≡_, refl, ap}
 use mathlib.Core.Bool.{cond}
 use mathlib.Core.List.{List}
@@ -9,7 +10,7 @@ use denote.Ref.{now}
 use lib.Dec.{eqb}
 use lib.ListN.{getD}
 use lib.Ieee.{Float, nan}
-use Rattle.ground.proofs.DeterminedLaws.{by-equation}
+use Rattle.ground.proofs.DeterminedLaws.{by-equation, named}
 use Rattle.columns.specs.declared.refusal.Refusal.{Refusal}
 use Rattle.columns.specs.declared.refusal.Answer.{Answer}
 use Rattle.columns.specs.Refusals.{told}
@@ -25,8 +26,6 @@ use Rattle.blocks.specs.declared.eliminated_blocks.Entry.{Entry}
 use Rattle.blocks.specs.Damping.{Termed, termed}
 use Rattle.blocks.specs.BlockValues.{ValuesLeft}
 use Rattle.blocks.proofs.damping.Damping.identity.Reads as identity
-use Rattle.blocks.proofs.damping.Damping.check.Reads as check
-use Rattle.blocks.proofs.damping.Damping.term.Reads as plain
 use Rattle.blocks.proofs.damping.Damping.diagonal_term.Reads as diagonal
 use Rattle.blocks.proofs.partition.slot.Reads as slots
 use Rattle.blocks.proofs.partition.kept_local.Reads as kept
@@ -49,18 +48,8 @@ unfolding termBack
 term-back (Term x) = refl
 term-back (Refused r) = rw (number-some r) (ap (λ (s : Refusal). Refused s) (refusal-back r))
 
--- an answer that the promise names
-named : {Out : Type 0} (r a b : Out) → a ≡ r → b ≡ r → a ≡ b
-named r = by-equation (λ a. a) (λ a. a) (λ a. refl) r
-
 pub identity-of : (κs : Lfts 0) (a : _) (s t : _) (p q : Damping) → identity.Post κs a p s → identity.Post κs a q t → p ≡ q
 identity-of κs a s t p q = named _ p q
-
-pub check-damping : (κs : Lfts 0) (a : _) (s t : _) (p q : Answer) → check.Post κs a p s → check.Post κs a q t → p ≡ q
-check-damping κs a s t p q = by-equation told answerOf answer-back _ p q
-
-pub term-of : (κs : Lfts 0) (a : _) (s t : _) (p q : Float) → plain.Post κs a p s → plain.Post κs a q t → p ≡ q
-term-of κs a s t p q = named _ p q
 
 pub diagonal-term : (κs : Lfts 0) (a : _) (s t : _) (p q : DiagonalTerm) → diagonal.Post κs a p s → diagonal.Post κs a q t → p ≡ q
 diagonal-term κs a s t p q = by-equation termed termBack term-back _ p q
@@ -83,6 +72,7 @@ eliminated-offset κs a s t p q = named _ p q
 pub block-place : (κs : Lfts 1) (a : _) (s t : _) (p q : Place) → places.Post κs a p s → places.Post κs a q t → p ≡ q
 block-place κs a s t p q = named _ p q
 
+-- the part's contents; where it lies in memory no contract says
 pub block : (κs : Lfts 2) (a : _) (s t : _) (p q : _) → blocks.Post κs a p s → blocks.Post κs a q t → now p ≡ now q
 block κs a s t p q = named _ (now p) (now q)
 

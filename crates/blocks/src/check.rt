@@ -36,7 +36,7 @@ fn is_odd(side: &[u32]) -> bool
 }
 
 // Refusals 1 and 2 of the block lists alone.
-pub fn check_lists(kept: &[u32], elims: &[u32]) -> Answer
+fn check_lists(kept: &[u32], elims: &[u32]) -> Answer
     ensures { λ r. ⌜ told r ≡ listsTold (now (kept .entry)) (now (elims .entry)) ⌝ }
 {
     if too_many(kept) {
@@ -55,7 +55,7 @@ pub fn check_lists(kept: &[u32], elims: &[u32]) -> Answer
 }
 
 // Refusal 4: a side without a block, kept first.
-pub fn empty_side(kept: &[u32], elims: &[u32]) -> Answer
+fn empty_side(kept: &[u32], elims: &[u32]) -> Answer
     ensures { λ r. ⌜ told r ≡ emptySide (now (kept .entry)) (now (elims .entry)) ⌝ }
 {
     if kept.len() / 2 == 0 {
@@ -87,7 +87,7 @@ pub fn check_parts(
 }
 
 // Refusals 1 to 6, after which no byte changes.
-pub fn check_early(
+fn check_early(
     nrows: usize,
     ptrs: &[u32],
     rows: &[u32],

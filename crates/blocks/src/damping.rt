@@ -53,7 +53,7 @@ impl Damping {
     }
 
     // Whether a value can be held between the limits.
-    pub fn check(self) -> Answer
+    pub(crate) fn check(self) -> Answer
         ensures { λ r. ⌜ told r ≡ dampingTold self ⌝ }
     {
         if self.bad() {
@@ -75,7 +75,7 @@ impl Damping {
     }
 
     // The term, of damping that is checked already.
-    pub fn term(self, value: f64) -> f64
+    pub(crate) fn term(self, value: f64) -> f64
         ensures { λ r. ⌜ r ≡ termOf self value ⌝ }
     {
         self.lambda * self.clamp(value)

@@ -8,6 +8,8 @@ use native.Mathlib.Omega.{arith}
 use lib.Dec.{eqb, leb}
 use lib.ListN.{getD}
 use borrow.Author.Tests.{eq-eqb, eqb-true, eqb-false, le-leb, lt-leb}
+use Rattle.ground.specs.Determined.{Determined}
+use Rattle.ground.proofs.DeterminedLaws.{by-equation}
 use Rattle.columns.specs.declared.refusal.Refusal.{Refusal}
 use Rattle.columns.specs.declared.refusal.Refusal.the-variants.{
   TooBig,
@@ -94,6 +96,9 @@ pub answer-back : (a : Answer) → answerOf (told a) ≡ a
 unfolding answerOf
 answer-back Done = refl
 answer-back (Refused r) = rw (number-some r) (ap (λ (s : Refusal). Refused s) (refusal-back r))
+
+pub told-determined : (t : Told) → Determined (λ (a : Answer). told a ≡ t)
+told-determined = by-equation told answerOf answer-back
 
 -- ---- passing
 

@@ -107,14 +107,7 @@ fn add_entry(rows: &[u32], values: &[f64], p: usize, y: &[f64], acc: f64) -> f64
 }
 
 // The sum over places lo up to hi, from start. No zero is skipped.
-pub fn gather_entries(
-    rows: &[u32],
-    values: &[f64],
-    lo: usize,
-    hi: usize,
-    y: &[f64],
-    start: f64,
-) -> f64
+fn gather_entries(rows: &[u32], values: &[f64], lo: usize, hi: usize, y: &[f64], start: f64) -> f64
     requires { ⌜ EntriesFit (now rows) (length (now values)) (length (now y)) lo hi ⌝ }
     ensures { λ r. ⌜ r ≡ sumFrom start (gather (entryTerm (now (rows .entry)) (now (values .entry)) (now (y .entry))) lo hi) ⌝ }
 {

@@ -33,7 +33,7 @@ pub fn cross_answer(answer: Answer, first: &mut u64, second: &mut u64) -> u32
 }
 
 // The same of the plan, whose 0 has the two span counts.
-pub fn cross_plan(planned: Planned, first: &mut u64, second: &mut u64) -> u32
+pub(crate) fn cross_plan(planned: Planned, first: &mut u64, second: &mut u64) -> u32
     ensures { λ n. ⌜ record { number = n; first = now (first .exit); second = now (second .exit) } ≡ crossed (toldPlan planned) ⌝ }
 {
     match planned {

@@ -7,7 +7,9 @@ use lib.Ieee.{Float}
 use contract.Lifetimes.{Lfts}
 use denote.Ref.{now}
 use Rattle.ground.specs.Determined.{Determined}
+use Rattle.ground.proofs.DeterminedLaws.{by-equation}
 use Rattle.edge.proofs.Determined.{crossed-determined, export-determined}
+use Rattle.edge_compare.specs.Compare.{Looked, looked}
 use Rattle.edge_compare.proofs.column_exports.pivotfern_check_columns.Reads as check-columns-reads
 use Rattle.edge_compare.proofs.column_exports.pivotfern_column_dot.Reads as column-dot-reads
 use Rattle.edge_compare.proofs.column_exports.pivotfern_jt_vec.Reads as jt-vec-reads
@@ -26,6 +28,10 @@ use Rattle.edge_compare.proofs.product_exports.pivotfern_coupling_times
 use Rattle.edge_compare.proofs.product_exports.pivotfern_coupling_transpose_times.Reads as coupling-transpose-times-reads
 use Rattle.edge_compare.proofs.product_exports.pivotfern_step.Reads as step-reads
 use Rattle.edge_compare.proofs.product_exports.pivotfern_sweep.Reads as sweep-reads
+
+-- what a lookup gives
+looked-determined : (w : Looked) → Determined (λ (o : ℕ × ℕ × ℕ). looked (o .0) (o .1) (o .2) ≡ w)
+looked-determined = by-equation (λ (o : ℕ × ℕ × ℕ). looked (o .0) (o .1) (o .2)) (λ (w : Looked). (w .kind, w .first, w .second)) (λ o. refl)
 
 pub check-columns : (κs : Lfts 5) (a : _) (s t : _) (p q : ℕ) → check-columns-reads.Post κs a p s → check-columns-reads.Post κs a q t → _≡_ {A = ℕ × ℕ × ℕ} (p, now (s .1 .1 .1 .1 .0), now (s .1 .1 .1 .1 .1 .0)) (q, now (t .1 .1 .1 .1 .0), now (t .1 .1 .1 .1 .1 .0))
 check-columns κs a s t p q = crossed-determined _ (p, now (s .1 .1 .1 .1 .0), now (s .1 .1 .1 .1 .1 .0)) (q, now (t .1 .1 .1 .1 .0), now (t .1 .1 .1 .1 .1 .0))
@@ -66,16 +72,16 @@ check-blocks κs a s t p q =
     (q, now (t .1 .1 .1 .1 .1 .1 .1 .0), now (t .1 .1 .1 .1 .1 .1 .1 .1 .0), now (t .1 .1 .1 .1 .1 .1 .0))
 
 pub slot : (κs : Lfts 4) (a : _) (s t : _) (p q : ℕ) → slot-reads.Post κs a p s → slot-reads.Post κs a q t → _≡_ {A = ℕ × ℕ × ℕ} (p, now (s .1 .1 .1 .0), now (s .1 .1 .1 .1 .0)) (q, now (t .1 .1 .1 .0), now (t .1 .1 .1 .1 .0))
-slot κs a s t p q = crossed-determined _ (p, now (s .1 .1 .1 .0), now (s .1 .1 .1 .1 .0)) (q, now (t .1 .1 .1 .0), now (t .1 .1 .1 .1 .0))
+slot κs a s t p q = looked-determined _ (p, now (s .1 .1 .1 .0), now (s .1 .1 .1 .1 .0)) (q, now (t .1 .1 .1 .0), now (t .1 .1 .1 .1 .0))
 
 pub kept-local : (κs : Lfts 3) (a : _) (s t : _) (p q : ℕ) → kept-local-reads.Post κs a p s → kept-local-reads.Post κs a q t → _≡_ {A = ℕ × ℕ × ℕ} (p, now (s .1 .1 .0), now (s .1 .1 .1 .0)) (q, now (t .1 .1 .0), now (t .1 .1 .1 .0))
-kept-local κs a s t p q = crossed-determined _ (p, now (s .1 .1 .0), now (s .1 .1 .1 .0)) (q, now (t .1 .1 .0), now (t .1 .1 .1 .0))
+kept-local κs a s t p q = looked-determined _ (p, now (s .1 .1 .0), now (s .1 .1 .1 .0)) (q, now (t .1 .1 .0), now (t .1 .1 .1 .0))
 
 pub eliminated-local : (κs : Lfts 3) (a : _) (s t : _) (p q : ℕ) → eliminated-local-reads.Post κs a p s → eliminated-local-reads.Post κs a q t → _≡_ {A = ℕ × ℕ × ℕ} (p, now (s .1 .1 .0), now (s .1 .1 .1 .0)) (q, now (t .1 .1 .0), now (t .1 .1 .1 .0))
-eliminated-local κs a s t p q = crossed-determined _ (p, now (s .1 .1 .0), now (s .1 .1 .1 .0)) (q, now (t .1 .1 .0), now (t .1 .1 .1 .0))
+eliminated-local κs a s t p q = looked-determined _ (p, now (s .1 .1 .0), now (s .1 .1 .1 .0)) (q, now (t .1 .1 .0), now (t .1 .1 .1 .0))
 
 pub block : (κs : Lfts 4) (a : _) (s t : _) (p q : ℕ) → block-reads.Post κs a p s → block-reads.Post κs a q t → _≡_ {A = ℕ × ℕ × ℕ} (p, now (s .1 .1 .1 .0), now (s .1 .1 .1 .1 .0)) (q, now (t .1 .1 .1 .0), now (t .1 .1 .1 .1 .0))
-block κs a s t p q = crossed-determined _ (p, now (s .1 .1 .1 .0), now (s .1 .1 .1 .1 .0)) (q, now (t .1 .1 .1 .0), now (t .1 .1 .1 .1 .0))
+block κs a s t p q = looked-determined _ (p, now (s .1 .1 .1 .0), now (s .1 .1 .1 .1 .0)) (q, now (t .1 .1 .1 .0), now (t .1 .1 .1 .1 .0))
 
 pub gather-from-jacobian : (κs : Lfts 9) (a : _) (s t : _) (p q : ℕ) → gather-from-jacobian-reads.Post κs a p s → gather-from-jacobian-reads.Post κs a q t
     → _≡_ {A = ℕ × ℕ × ℕ × (List ℕ × List Float)} (p, now (s .1 .1 .1 .1 .1 .1 .1 .1 .0), now (s .1 .1 .1 .1 .1 .1 .1 .1 .1 .0), (now (s .1 .1 .1 .1 .1 .1 .0), now (s .1 .1 .1 .1 .1 .1 .1 .0)))

@@ -1,11 +1,10 @@
 -- What the exports give that are there for comparison only. Assumes nothing.
 use mathlib.Core.Bool.{Bool, not}
-use mathlib.Core.List.{List, [], _∷_}
+use mathlib.Core.List.{List}
 use Prim.Native.Nat.{ℕ}
 use lib.Dec.{eqb}
 use lib.ListN.{getD}
 use lib.Ieee.{Float}
-use Rattle.columns.specs.Refusals.{Told, tell}
 use Rattle.columns.specs.JacobianOps.{Dotted, Left, LeftRows}
 use Rattle.blocks.specs.Claims.{Mapped}
 use Rattle.blocks.specs.BlockValues.{ValuesLeft}
@@ -19,7 +18,7 @@ use Rattle.blocks.specs.declared.partition.ColSlot.the-variants as slot
 use Rattle.blocks.specs.declared.eliminated_blocks.Place.{Place}
 use Rattle.products.specs.Couplings.{Made, Coupled}
 use Rattle.products.specs.Orders.{Swept}
-use Rattle.edge.specs.Edge.{Crossed, crossed, Export, export}
+use Rattle.edge.specs.Edge.{Export, export}
 
 -- a sum or a term comes through a lent number, which stays as it was after a refusal
 abbrev pub dotExport : Dotted → Float → Export Float
@@ -54,20 +53,30 @@ sweptExport o = export (o .told) (o .map, o .rows, o .progress)
 abbrev pub byNumber : ℕ → Bool
 byNumber n = not (eqb n 0)
 
--- lookups: 0 nothing; 1 and a local number; 2, a block and an offset
-abbrev pub numberTold : Number → Told
-numberTold (number.Is local) = tell 1 (local ∷ [])
-numberTold number.Nothing = tell 0 []
+-- what a lookup gives: which of its answers it is, and that answer's numbers, 0 where there is none. A kind is no number of document 01's, which
+-- has none for lookups
+pub record Looked : Type 0 where
+  pub kind : ℕ
+  pub first : ℕ
+  pub second : ℕ
 
-abbrev pub withinTold : Within → Told
-withinTold (within.At block offset) = tell 2 (block ∷ offset ∷ [])
-withinTold within.Nothing = tell 0 []
+abbrev pub looked : ℕ → ℕ → ℕ → Looked
+looked kind first second = record { kind = kind; first = first; second = second }
 
-abbrev pub slotTold : ColSlot → Told
-slotTold (slot.Kept local) = tell 1 (local ∷ [])
-slotTold (slot.Eliminated block offset) = tell 2 (block ∷ offset ∷ [])
-slotTold slot.Nothing = tell 0 []
+-- 0 nothing; 1 and a local number; 2, a block and an offset
+abbrev pub numberLooked : Number → Looked
+numberLooked (number.Is local) = looked 1 local 0
+numberLooked number.Nothing = looked 0 0 0
 
--- a part of a slice by its start and its length
-abbrev pub placeTold : Place → Told
-placeTold p = tell 0 (p .start ∷ p .length ∷ [])
+abbrev pub withinLooked : Within → Looked
+withinLooked (within.At block offset) = looked 2 block offset
+withinLooked within.Nothing = looked 0 0 0
+
+abbrev pub slotLooked : ColSlot → Looked
+slotLooked (slot.Kept local) = looked 1 local 0
+slotLooked (slot.Eliminated block offset) = looked 2 block offset
+slotLooked slot.Nothing = looked 0 0 0
+
+-- a part of a slice, of which there is one kind, 0: its start and its length
+abbrev pub placeLooked : Place → Looked
+placeLooked p = looked 0 (p .start) (p .length)

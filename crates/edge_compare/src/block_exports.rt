@@ -21,8 +21,7 @@ ghost use Rattle.blocks.specs.Lookups.{localIn, withinIn, slotOf};
 ghost use Rattle.blocks.specs.Access.{blockPlace};
 ghost use Rattle.blocks.specs.BlockValues.{gatherFromJacobian, dampValues};
 ghost use Rattle.blocks.specs.Damping.{diagonalTerm};
-ghost use Rattle.edge.specs.Edge.{crossed};
-ghost use Rattle.edge_compare.specs.Compare.{termExport, mapExport, valuesExport, numberTold, withinTold, slotTold, placeTold};
+ghost use Rattle.edge_compare.specs.Compare.{termExport, mapExport, valuesExport, looked, numberLooked, withinLooked, slotLooked, placeLooked};
 
 // Checks columns and blocks, and fills the map.
 #[no_mangle]
@@ -52,7 +51,7 @@ pub extern "C" fn pivotfern_slot(
     first: &mut u64,
     second: &mut u64,
 ) -> u32
-    ensures { λ n. ⌜ record { number = n; first = now (first .exit); second = now (second .exit) } ≡ crossed (slotTold (slotOf (now (kept .entry)) (now (elims .entry)) column)) ⌝ }
+    ensures { λ n. ⌜ looked n (now (first .exit)) (now (second .exit)) ≡ slotLooked (slotOf (now (kept .entry)) (now (elims .entry)) column) ⌝ }
 {
     let answer = slot(kept, elims, column);
     cross_slot(answer, first, second)
@@ -66,7 +65,7 @@ pub extern "C" fn pivotfern_kept_local(
     first: &mut u64,
     second: &mut u64,
 ) -> u32
-    ensures { λ n. ⌜ record { number = n; first = now (first .exit); second = now (second .exit) } ≡ crossed (numberTold (localIn (now (kept .entry)) column)) ⌝ }
+    ensures { λ n. ⌜ looked n (now (first .exit)) (now (second .exit)) ≡ numberLooked (localIn (now (kept .entry)) column) ⌝ }
 {
     let answer = kept_local(kept, column);
     cross_number(answer, first, second)
@@ -80,7 +79,7 @@ pub extern "C" fn pivotfern_eliminated_local(
     first: &mut u64,
     second: &mut u64,
 ) -> u32
-    ensures { λ n. ⌜ record { number = n; first = now (first .exit); second = now (second .exit) } ≡ crossed (withinTold (withinIn (now (elims .entry)) column)) ⌝ }
+    ensures { λ n. ⌜ looked n (now (first .exit)) (now (second .exit)) ≡ withinLooked (withinIn (now (elims .entry)) column) ⌝ }
 {
     let answer = eliminated_local(elims, column);
     cross_within(answer, first, second)
@@ -95,7 +94,8 @@ pub extern "C" fn pivotfern_block(
     first: &mut u64,
     second: &mut u64,
 ) -> u32
-    ensures { λ n. ⌜ record { number = n; first = now (first .exit); second = now (second .exit) } ≡ crossed (placeTold (blockPlace (length (now (values .entry))) (now (elims .entry)) number)) ⌝ }
+    ensures { λ n. ⌜ looked n (now (first .exit)) (now (second .exit))
+        ≡ placeLooked (blockPlace (length (now (values .entry))) (now (elims .entry)) number) ⌝ }
 {
     let answer = block_place(values.len(), elims, number);
     cross_place(answer, first, second)

@@ -2,3 +2,4 @@
 pub mod HallTable
 mod SameRules
 mod CaseRules
+mod Determined

@@ -137,14 +137,20 @@ fn take_elims(
 }
 
 // Takes the kept blocks, and goes on.
-pub fn take_kept(kind: u64, case: &[u64], ptrs: &[u32], rows: &[u32], values: &[f64]) -> bool {
+pub(crate) fn take_kept(
+    kind: u64,
+    case: &[u64],
+    ptrs: &[u32],
+    rows: &[u32],
+    values: &[f64],
+) -> bool {
     let mut room = u32_room();
     let n = take_u32(case, 4, &mut room);
     take_elims(kind, case, ptrs, rows, values, &room[..n])
 }
 
 // Whether a case has the lists of its kind, past the first.
-pub fn has_lists(kind: u64, case: &[u64]) -> bool {
+pub(crate) fn has_lists(kind: u64, case: &[u64]) -> bool {
     match kind {
         9 => well_formed(case, 9) && list(case, 7).len() == 1,
         10 => well_formed(case, 9) && list(case, 7).len() == 2,
@@ -155,7 +161,7 @@ pub fn has_lists(kind: u64, case: &[u64]) -> bool {
 }
 
 // Writes how many cases of these kinds were compared.
-pub fn write_counts(counts: &[u64; COUNTS]) {
+pub(crate) fn write_counts(counts: &[u64; COUNTS]) {
     write_count(b", check_blocks ", counts[9]);
     write_count(b", its refusals ", counts[10]);
     write_count(b", gather_from_jacobian ", counts[11]);

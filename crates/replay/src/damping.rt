@@ -10,7 +10,7 @@ use blocks::damping::Damping;
 use blocks::damping::DiagonalTerm;
 
 // Lambda and the limits of list k.
-pub fn damping(case: &[u64], k: usize) -> Damping {
+pub(crate) fn damping(case: &[u64], k: usize) -> Damping {
     Damping {
         lambda: float_at(case, k, 0),
         min: float_at(case, k, 1),
@@ -47,7 +47,7 @@ fn same_identity(case: &[u64]) -> bool {
 }
 
 // Whether the calls that a case records give what is expected.
-pub fn same_calls(kind: u64, case: &[u64]) -> bool {
+pub(crate) fn same_calls(kind: u64, case: &[u64]) -> bool {
     if kind == 13 {
         return same_terms(case);
     }
@@ -55,7 +55,7 @@ pub fn same_calls(kind: u64, case: &[u64]) -> bool {
 }
 
 // Whether a case has the lists of its kind.
-pub fn has_lists(kind: u64, case: &[u64]) -> bool {
+pub(crate) fn has_lists(kind: u64, case: &[u64]) -> bool {
     if kind == 13 {
         return well_formed(case, 3)
             && list(case, 0).len() == 3
@@ -65,7 +65,7 @@ pub fn has_lists(kind: u64, case: &[u64]) -> bool {
 }
 
 // Writes how many cases of these kinds were compared.
-pub fn write_counts(counts: &[u64; COUNTS]) {
+pub(crate) fn write_counts(counts: &[u64; COUNTS]) {
     write_count(b", diagonal_term ", counts[13]);
     write_count(b", identity ", counts[14]);
 }

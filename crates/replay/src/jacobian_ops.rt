@@ -99,14 +99,20 @@ fn same_by_kind(
 }
 
 // Takes list 4 as a vector, which it is in kinds 2 and 4; the others do not read it.
-pub fn take_vector(kind: u64, case: &[u64], ptrs: &[u32], rows: &[u32], values: &[f64]) -> bool {
+pub(crate) fn take_vector(
+    kind: u64,
+    case: &[u64],
+    ptrs: &[u32],
+    rows: &[u32],
+    values: &[f64],
+) -> bool {
     let mut room = f64_room();
     let n = take_f64(case, 4, &mut room);
     same_by_kind(kind, case, ptrs, rows, values, &room[..n])
 }
 
 // Whether a case has the lists of its kind.
-pub fn has_lists(kind: u64, case: &[u64]) -> bool {
+pub(crate) fn has_lists(kind: u64, case: &[u64]) -> bool {
     if list(case, 0).len() != 1 {
         return false;
     }
@@ -120,7 +126,7 @@ pub fn has_lists(kind: u64, case: &[u64]) -> bool {
 }
 
 // Writes how many cases of these kinds were compared.
-pub fn write_counts(counts: &[u64; COUNTS]) {
+pub(crate) fn write_counts(counts: &[u64; COUNTS]) {
     write_count(b"column_dot ", counts[1]);
     write_count(b", jt_vec ", counts[2]);
     write_count(b", diag_jt_j ", counts[3]);

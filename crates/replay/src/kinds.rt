@@ -6,10 +6,10 @@ use crate::partition;
 use crate::with_columns;
 
 // Room for a count at each kind's number, so the numbers are below it.
-pub const COUNTS: usize = 32;
+pub(crate) const COUNTS: usize = 32;
 
 // What became of a case.
-pub enum Outcome {
+pub(crate) enum Outcome {
     // its answers were compared: they are the original's, or they are not
     Same,
     Differs,
@@ -37,7 +37,7 @@ fn same_calls(kind: u64, case: &[u64]) -> bool {
 }
 
 // Replays a case by its kind.
-pub fn replay(kind: u64, case: &[u64]) -> Outcome {
+pub(crate) fn replay(kind: u64, case: &[u64]) -> Outcome {
     if !has_lists(kind, case) {
         return Outcome::Malformed;
     }
@@ -48,13 +48,13 @@ pub fn replay(kind: u64, case: &[u64]) -> Outcome {
 }
 
 // Writes a name and a count.
-pub fn write_count(name: &[u8], count: u64) {
+pub(crate) fn write_count(name: &[u8], count: u64) {
     io::write_all(1, name);
     io::print_decimal(1, count);
 }
 
 // Writes how many cases of each kind were compared.
-pub fn write_counts(counts: &[u64; COUNTS]) {
+pub(crate) fn write_counts(counts: &[u64; COUNTS]) {
     jacobian_ops::write_counts(counts);
     partition::write_counts(counts);
     block_values::write_counts(counts);

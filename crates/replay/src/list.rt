@@ -10,14 +10,14 @@ ghost use Rattle.replay.specs.Counts.{Counts};
 const MOST: usize = 512;
 
 // Room for a list of list numbers.
-pub fn u32_room() -> [u32; MOST]
+pub(crate) fn u32_room() -> [u32; MOST]
     ensures { λ r. ⌜ 512 ≡ length r ⌝ }
 {
     [0; MOST]
 }
 
 // Room for a list of floats. Each place holds what no expected answer is, so that one that a call never writes shows.
-pub fn f64_room() -> [f64; MOST]
+pub(crate) fn f64_room() -> [f64; MOST]
     ensures { λ r. ⌜ 512 ≡ length r ⌝ }
 {
     [-12345.678; MOST]
@@ -29,7 +29,7 @@ fn wide(x: u8) -> u64 {
 }
 
 // Adds the bytes to the little-endian words, which hold 0, and answers how many whole words that makes.
-pub fn take_words(bytes: &[u8], words: &mut [u64]) -> usize
+pub(crate) fn take_words(bytes: &[u8], words: &mut [u64]) -> usize
     ensures { λ r. ⌜ Counts r (now (words .exit)) ⌝ }
 {
     let n = least(bytes.len() / 8, words.len());
@@ -67,7 +67,7 @@ fn place(case: &[u64], k: usize) -> usize {
 }
 
 // The numbers of list k; none where it is cut short or not there.
-pub fn list(case: &[u64], k: usize) -> &[u64] {
+pub(crate) fn list(case: &[u64], k: usize) -> &[u64] {
     let at = place(case, k);
     let end = after(case, at);
     if end <= at {
@@ -77,7 +77,7 @@ pub fn list(case: &[u64], k: usize) -> &[u64] {
 }
 
 // Whether a case is `lists` whole lists and nothing else, and there is room for each.
-pub fn well_formed(case: &[u64], lists: usize) -> bool {
+pub(crate) fn well_formed(case: &[u64], lists: usize) -> bool {
     for k in 0..lists {
         if list(case, k).len() > MOST {
             return false;
@@ -87,7 +87,7 @@ pub fn well_formed(case: &[u64], lists: usize) -> bool {
 }
 
 // Whether number i of list k is x.
-pub fn is(case: &[u64], k: usize, i: usize, x: usize) -> bool {
+pub(crate) fn is(case: &[u64], k: usize, i: usize, x: usize) -> bool {
     let numbers = list(case, k);
     if i < numbers.len() {
         return numbers[i] == x as u64;
@@ -96,7 +96,7 @@ pub fn is(case: &[u64], k: usize, i: usize, x: usize) -> bool {
 }
 
 // Number i of list k; 0 where there is none.
-pub fn number(case: &[u64], k: usize, i: usize) -> usize {
+pub(crate) fn number(case: &[u64], k: usize, i: usize) -> usize {
     let numbers = list(case, k);
     if i < numbers.len() {
         return numbers[i] as usize;
@@ -120,14 +120,14 @@ fn least(a: usize, b: usize) -> usize
 }
 
 // How many places at the start of `to` list k takes: as many as it has numbers, where there is room.
-pub fn places(case: &[u64], k: usize, to: &[f64]) -> usize
+pub(crate) fn places(case: &[u64], k: usize, to: &[f64]) -> usize
     ensures { λ r. ⌜ Counts r (now (to .entry)) ⌝ }
 {
     least(list(case, k).len(), to.len())
 }
 
 // Number i of list k as a float; 0.0 where there is none.
-pub fn float_at(case: &[u64], k: usize, i: usize) -> f64 {
+pub(crate) fn float_at(case: &[u64], k: usize, i: usize) -> f64 {
     let numbers = list(case, k);
     if i < numbers.len() {
         return float(numbers[i]);
@@ -136,7 +136,7 @@ pub fn float_at(case: &[u64], k: usize, i: usize) -> f64 {
 }
 
 // Takes list k as list numbers, and answers how many.
-pub fn take_u32(case: &[u64], k: usize, to: &mut [u32]) -> usize
+pub(crate) fn take_u32(case: &[u64], k: usize, to: &mut [u32]) -> usize
     ensures { λ r. ⌜ Counts r (now (to .exit)) ⌝ }
 {
     let numbers = list(case, k);
@@ -148,7 +148,7 @@ pub fn take_u32(case: &[u64], k: usize, to: &mut [u32]) -> usize
 }
 
 // Takes list k as floats, and answers how many.
-pub fn take_f64(case: &[u64], k: usize, to: &mut [f64]) -> usize
+pub(crate) fn take_f64(case: &[u64], k: usize, to: &mut [f64]) -> usize
     ensures { λ r. ⌜ Counts r (now (to .exit)) ⌝ }
 {
     let numbers = list(case, k);
@@ -160,7 +160,7 @@ pub fn take_f64(case: &[u64], k: usize, to: &mut [f64]) -> usize
 }
 
 // Whether floats are those of list k, bit for bit, with NaN as NaN.
-pub fn same(got: &[f64], case: &[u64], k: usize) -> bool {
+pub(crate) fn same(got: &[f64], case: &[u64], k: usize) -> bool {
     let expected = list(case, k);
     if got.len() != expected.len() {
         return false;
@@ -179,7 +179,7 @@ fn word(x: u32) -> u64 {
 }
 
 // Whether list numbers are those of list k.
-pub fn same_u32(got: &[u32], case: &[u64], k: usize) -> bool {
+pub(crate) fn same_u32(got: &[u32], case: &[u64], k: usize) -> bool {
     let expected = list(case, k);
     if got.len() != expected.len() {
         return false;

@@ -106,7 +106,7 @@ fn take_elims(kind: u64, case: &[u64], kept: &[u32]) -> bool {
 }
 
 // Whether the calls that a case records give what is expected.
-pub fn same_calls(kind: u64, case: &[u64]) -> bool {
+pub(crate) fn same_calls(kind: u64, case: &[u64]) -> bool {
     let mut room = u32_room();
     let n = take_u32(case, 0, &mut room);
     take_elims(kind, case, &room[..n])
@@ -123,7 +123,7 @@ fn level(case: &[u64], end: usize) -> bool {
 }
 
 // Whether a case has the lists of its kind.
-pub fn has_lists(kind: u64, case: &[u64]) -> bool {
+pub(crate) fn has_lists(kind: u64, case: &[u64]) -> bool {
     match kind {
         5 => well_formed(case, 8) && level(case, 8),
         6 => well_formed(case, 6) && level(case, 5) && list(case, 5).len() == 1,
@@ -133,7 +133,7 @@ pub fn has_lists(kind: u64, case: &[u64]) -> bool {
 }
 
 // Writes how many cases of these kinds were compared.
-pub fn write_counts(counts: &[u64; COUNTS]) {
+pub(crate) fn write_counts(counts: &[u64; COUNTS]) {
     write_count(b", lookups ", counts[5]);
     write_count(b", block_place ", counts[6]);
     write_count(b", kept_offset ", counts[7]);

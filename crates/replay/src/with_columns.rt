@@ -25,14 +25,14 @@ fn take_rows(kind: u64, case: &[u64], ptrs: &[u32]) -> bool {
 }
 
 // Whether the call that a case records gives what is expected.
-pub fn same_call(kind: u64, case: &[u64]) -> bool {
+pub(crate) fn same_call(kind: u64, case: &[u64]) -> bool {
     let mut room = u32_room();
     let n = take_u32(case, 1, &mut room);
     take_rows(kind, case, &room[..n])
 }
 
 // Whether a case has the lists of its kind.
-pub fn has_lists(kind: u64, case: &[u64]) -> bool {
+pub(crate) fn has_lists(kind: u64, case: &[u64]) -> bool {
     if list(case, 0).len() != 1 {
         return false;
     }

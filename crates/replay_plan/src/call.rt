@@ -141,7 +141,7 @@ fn same_call(case: &[u32]) -> bool {
 }
 
 // Whether a case has its lists, and the call gives what is expected.
-pub fn is_same(case: &[u32]) -> bool {
+pub(crate) fn is_same(case: &[u32]) -> bool {
     if !well_formed(case, 24) {
         return false;
     }
@@ -152,6 +152,6 @@ pub fn is_same(case: &[u32]) -> bool {
 }
 
 // Whether the original refused a case.
-pub fn is_refused(case: &[u32]) -> bool {
+pub(crate) fn is_refused(case: &[u32]) -> bool {
     number(case, 6, 0) != 0
 }

@@ -11,14 +11,14 @@ fn wide(x: u8) -> u32 {
 }
 
 // The lower of two numbers.
-pub fn least(a: usize, b: usize) -> usize
+pub(crate) fn least(a: usize, b: usize) -> usize
     ensures { λ r. ⌜ (r ≤ a) × (r ≤ b) ⌝ }
 {
     if a < b { a } else { b }
 }
 
 // Adds the bytes to the little-endian words, which hold 0, and answers how many whole words that makes.
-pub fn take_words(bytes: &[u8], words: &mut [u32]) -> usize
+pub(crate) fn take_words(bytes: &[u8], words: &mut [u32]) -> usize
     ensures { λ r. ⌜ Counts r (now (words .exit)) ⌝ }
 {
     let n = least(bytes.len() / 4, words.len());
@@ -56,7 +56,7 @@ fn place(case: &[u32], k: usize) -> usize {
 }
 
 // The numbers of list k; none where it is cut short or not there.
-pub fn list(case: &[u32], k: usize) -> &[u32] {
+pub(crate) fn list(case: &[u32], k: usize) -> &[u32] {
     let at = place(case, k);
     let end = after(case, at);
     if end <= at {
@@ -66,7 +66,7 @@ pub fn list(case: &[u32], k: usize) -> &[u32] {
 }
 
 // Whether a case is `lists` whole lists and nothing else.
-pub fn well_formed(case: &[u32], lists: usize) -> bool {
+pub(crate) fn well_formed(case: &[u32], lists: usize) -> bool {
     place(case, lists) == case.len()
 }
 
@@ -76,7 +76,7 @@ fn count(x: u32) -> usize {
 }
 
 // Number i of a list; 0 where there is none.
-pub fn number_at(numbers: &[u32], i: usize) -> usize {
+pub(crate) fn number_at(numbers: &[u32], i: usize) -> usize {
     if i < numbers.len() {
         return count(numbers[i]);
     }
@@ -84,6 +84,6 @@ pub fn number_at(numbers: &[u32], i: usize) -> usize {
 }
 
 // Number i of list k; 0 where there is none.
-pub fn number(case: &[u32], k: usize, i: usize) -> usize {
+pub(crate) fn number(case: &[u32], k: usize, i: usize) -> usize {
     number_at(list(case, k), i)
 }

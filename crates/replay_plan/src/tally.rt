@@ -23,7 +23,7 @@ const SHOWN: usize = 20;
 
 // What is counted of a list: its plans, those of them that were refused, those that differ, and the first of their numbers, which count from
 // 0. No list has so many plans that a count could wrap.
-pub struct Tally {
+pub(crate) struct Tally {
     pub plans: u64,
     pub refused: u64,
     pub differ: u64,
@@ -99,7 +99,7 @@ impl Tally {
     }
 
     // Writes a list's line, which `head` begins.
-    pub fn write(self, head: &[u8]) {
+    pub(crate) fn write(self, head: &[u8]) {
         write_count(head, self.plans);
         write_count(b" plans compared, ", self.refused);
         write_count(b" of them refused, ", self.differ);
@@ -110,7 +110,7 @@ impl Tally {
 }
 
 // Replays every case of a list. What is left past the last whole case, `more` of the file among it, counts as one that differs.
-pub fn replay_list(words: &[u32], more: bool) -> Tally {
+pub(crate) fn replay_list(words: &[u32], more: bool) -> Tally {
     let mut tally = Tally::new();
     let mut at: usize = 0;
     while at < words.len() {

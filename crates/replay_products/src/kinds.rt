@@ -11,10 +11,10 @@ use crate::unplanned::same_update;
 use products::side::Side;
 
 // Room for a count at each kind's number.
-pub const COUNTS: usize = 13;
+pub(crate) const COUNTS: usize = 13;
 
 // What became of a record.
-pub enum Outcome {
+pub(crate) enum Outcome {
     // it is a problem
     Problem,
     // a case whose answers were compared: they are the original's, or they are not
@@ -60,7 +60,7 @@ fn same_call(kind: usize, problem: &[u32], case: &[u32]) -> bool {
 }
 
 // Replays a record by its kind: a case over its problem.
-pub fn replay(problem: &[u32], case: &[u32]) -> Outcome {
+pub(crate) fn replay(problem: &[u32], case: &[u32]) -> Outcome {
     let kind = number_at(case, 0);
     if kind == 0 && is_problem(case) {
         return Outcome::Problem;
@@ -75,7 +75,7 @@ pub fn replay(problem: &[u32], case: &[u32]) -> Outcome {
 }
 
 // Writes a name and a count.
-pub fn write_count(name: &[u8], count: u64) {
+pub(crate) fn write_count(name: &[u8], count: u64) {
     io::write_all(1, name);
     io::print_decimal(1, count);
 }
@@ -105,7 +105,7 @@ fn write_unplanned(counts: &[u64; COUNTS]) {
 }
 
 // Writes how many cases of each kind were compared.
-pub fn write_counts(counts: &[u64; COUNTS]) {
+pub(crate) fn write_counts(counts: &[u64; COUNTS]) {
     write_planned(counts);
     write_foreign(counts);
     write_unplanned(counts);

@@ -9,20 +9,20 @@ ghost use lib.ListN.{length};
 ghost use Rattle.replay_products.specs.Counts.{Counts};
 
 // The most floats of one list that there is room for, and the most places of a map or a progress.
-pub const MOST: usize = 128;
+pub(crate) const MOST: usize = 128;
 
 // What every place of a map and of a progress holds before the call: no number of an answer.
 const UNUSED: u32 = 3_000_000_000;
 
 // Room for a map or a progress.
-pub fn u32_room() -> [u32; MOST]
+pub(crate) fn u32_room() -> [u32; MOST]
     ensures { λ r. ⌜ 128 ≡ length r ⌝ }
 {
     [UNUSED; MOST]
 }
 
 // Room for a list of floats. Each place holds what no expected answer is, so that one that a call never writes shows.
-pub fn f64_room() -> [f64; MOST]
+pub(crate) fn f64_room() -> [f64; MOST]
     ensures { λ r. ⌜ 128 ≡ length r ⌝ }
 {
     [-12345.678; MOST]
@@ -41,7 +41,7 @@ fn least(a: usize, b: usize) -> usize
 }
 
 // Adds the bytes to the little-endian words, which hold 0, and answers how many whole words that makes.
-pub fn take_words(bytes: &[u8], words: &mut [u32]) -> usize
+pub(crate) fn take_words(bytes: &[u8], words: &mut [u32]) -> usize
     ensures { λ r. ⌜ Counts r (now (words .exit)) ⌝ }
 {
     let n = least(bytes.len() / 4, words.len());
@@ -57,7 +57,7 @@ fn count(x: u32) -> usize {
 }
 
 // Number i of a list; 0 where there is none.
-pub fn number_at(numbers: &[u32], i: usize) -> usize {
+pub(crate) fn number_at(numbers: &[u32], i: usize) -> usize {
     if i < numbers.len() {
         return count(numbers[i]);
     }
@@ -92,7 +92,7 @@ fn place(case: &[u32], k: usize) -> usize {
 }
 
 // The numbers of list k; none where it is cut short or not there.
-pub fn list(case: &[u32], k: usize) -> &[u32] {
+pub(crate) fn list(case: &[u32], k: usize) -> &[u32] {
     let at = place(case, k);
     let end = after(case, at);
     if end <= at {
@@ -102,24 +102,24 @@ pub fn list(case: &[u32], k: usize) -> &[u32] {
 }
 
 // Whether a case is `lists` whole lists and nothing else.
-pub fn well_formed(case: &[u32], lists: usize) -> bool {
+pub(crate) fn well_formed(case: &[u32], lists: usize) -> bool {
     place(case, lists) == case.len()
 }
 
 // Number i of list k; 0 where there is none.
-pub fn number(case: &[u32], k: usize, i: usize) -> usize {
+pub(crate) fn number(case: &[u32], k: usize, i: usize) -> usize {
     number_at(list(case, k), i)
 }
 
 // How many places at the start of a room list k's floats take, where there is room.
-pub fn places(case: &[u32], k: usize, room: &[f64]) -> usize
+pub(crate) fn places(case: &[u32], k: usize, room: &[f64]) -> usize
     ensures { λ r. ⌜ Counts r (now (room .entry)) ⌝ }
 {
     least(list(case, k).len() / 2, room.len())
 }
 
 // How many places at the start of a room n are, where there is room.
-pub fn u32_places(n: usize, room: &[u32]) -> usize
+pub(crate) fn u32_places(n: usize, room: &[u32]) -> usize
     ensures { λ r. ⌜ Counts r (now (room .entry)) ⌝ }
 {
     least(n, room.len())
@@ -139,7 +139,7 @@ fn pattern_at(numbers: &[u32], i: usize) -> u64 {
 }
 
 // Takes list k as floats, and answers how many.
-pub fn take_f64(case: &[u32], k: usize, to: &mut [f64]) -> usize
+pub(crate) fn take_f64(case: &[u32], k: usize, to: &mut [f64]) -> usize
     ensures { λ r. ⌜ Counts r (now (to .exit)) ⌝ }
 {
     let numbers = list(case, k);
@@ -151,7 +151,7 @@ pub fn take_f64(case: &[u32], k: usize, to: &mut [f64]) -> usize
 }
 
 // Whether floats are those of list k, bit for bit, with NaN as NaN.
-pub fn same(got: &[f64], case: &[u32], k: usize) -> bool {
+pub(crate) fn same(got: &[f64], case: &[u32], k: usize) -> bool {
     let expected = list(case, k);
     if expected.len() % 2 != 0 {
         return false;
@@ -178,7 +178,7 @@ fn same_at(got: &[u32; MOST], expected: &[u32], i: usize) -> bool
 }
 
 // Whether a map holds list k, and after it what it held before.
-pub fn same_map(got: &[u32; MOST], case: &[u32], k: usize) -> bool {
+pub(crate) fn same_map(got: &[u32; MOST], case: &[u32], k: usize) -> bool {
     let expected = list(case, k);
     for i in 0..MOST {
         if !same_at(got, expected, i) {
@@ -200,7 +200,7 @@ fn counts_at(got: &[u32], starts: &[u32], i: usize) -> bool {
 }
 
 // Whether a progress holds each chunk's span count by the starts.
-pub fn same_progress(got: &[u32], starts: &[u32]) -> bool {
+pub(crate) fn same_progress(got: &[u32], starts: &[u32]) -> bool {
     for i in 0..got.len() {
         if !counts_at(got, starts, i) {
             return false;

@@ -16,7 +16,7 @@ use products::order::sweep;
 use products::side::Side;
 
 // Whether a call answered that it was done.
-pub fn is_done(answer: Answer) -> bool {
+pub(crate) fn is_done(answer: Answer) -> bool {
     match answer {
         Answer::Done => true,
         Answer::Refused(_) => false,
@@ -78,7 +78,7 @@ fn same_swept(
 }
 
 // A sweep: list 0 has the lent rows, none where the call must not read them, list 1 the rows after the call, list 2 the order.
-pub fn same_sweep(side: Side, problem: &[u32], case: &[u32]) -> bool {
+pub(crate) fn same_sweep(side: Side, problem: &[u32], case: &[u32]) -> bool {
     let mut values = f64_room();
     let mut v = f64_room();
     let mut y = f64_room();
@@ -179,7 +179,7 @@ fn cut_results(
 }
 
 // The operator: list 0 has the damping, none where there is none, list 1 the rows, list 2 t, list 3 u, list 4 the result.
-pub fn same_operator(problem: &[u32], case: &[u32]) -> bool {
+pub(crate) fn same_operator(problem: &[u32], case: &[u32]) -> bool {
     let mut values = f64_room();
     let mut v = f64_room();
     let mut inverses = f64_room();

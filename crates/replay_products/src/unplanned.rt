@@ -17,7 +17,7 @@ use products::coupling::coupling_transpose_times;
 use products::update::combine_updates;
 
 // The block inverses: list 0 has the vector, list 1 the result.
-pub fn same_inverse(problem: &[u32], case: &[u32]) -> bool {
+pub(crate) fn same_inverse(problem: &[u32], case: &[u32]) -> bool {
     let mut map = u32_room();
     let mut values = f64_room();
     let mut inverses = f64_room();
@@ -66,7 +66,7 @@ fn couple(
 }
 
 // A coupling product: list 0 has the rows, list 1 the result; the problem's list `vector` is multiplied.
-pub fn same_coupling(transpose: bool, problem: &[u32], vector: usize, case: &[u32]) -> bool {
+pub(crate) fn same_coupling(transpose: bool, problem: &[u32], vector: usize, case: &[u32]) -> bool {
     let mut map = u32_room();
     let mut values = f64_room();
     let mut v = f64_room();
@@ -92,7 +92,7 @@ pub fn same_coupling(transpose: bool, problem: &[u32], vector: usize, case: &[u3
 }
 
 // The update: list 0 has the kept side's, list 1 the eliminated one's, list 2 all columns'.
-pub fn same_update(problem: &[u32], case: &[u32]) -> bool {
+pub(crate) fn same_update(problem: &[u32], case: &[u32]) -> bool {
     let mut map = u32_room();
     let mut values = f64_room();
     let mut kept_update = f64_room();

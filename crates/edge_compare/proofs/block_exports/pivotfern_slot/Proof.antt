@@ -1,16 +1,14 @@
 -- `edge_compare::block_exports::pivotfern_slot` meets its contract: the call's promise, with its answer carried across. Assumes nothing.
 use mathlib.Core.Path.{ap, _∙_}
 use borrow.Author.Needs.{needs}
-use Rattle.blocks.specs.declared.partition.ColSlot.{ColSlot}
-use Rattle.edge.specs.Edge.{crossed}
-use Rattle.edge_compare.specs.Compare.{slotTold}
+use Rattle.edge_compare.specs.Compare.{slotLooked}
 use Rattle.edge_compare.proofs.block_exports.pivotfern_slot.Statement.{statement}
 use Rattle.edge_compare.proofs.block_exports.pivotfern_slot.Tie as tie
 
 returns : tie.Need-returns
 returns c =
     let p = c .before .before .before .slot in
-    c .cross-slot .ensures ∙ ap (λ (a : ColSlot). crossed (slotTold a)) (p .ensures)
+    c .cross-slot .ensures ∙ ap slotLooked (p .ensures)
 
 pub pivotfern-slot-spec : {M : Type 1} → statement M
 pivotfern-slot-spec =

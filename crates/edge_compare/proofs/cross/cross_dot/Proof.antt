@@ -10,7 +10,7 @@ use Rattle.edge_compare.proofs.cross.cross_dot.Statement.{statement}
 use Rattle.edge_compare.proofs.cross.cross_dot.Tie as tie
 
 returns : tie.Need-returns
-returns c = exports _ done _ (c .cross-values .ensures) ∙ ap (λ (x : Dot). dotExport (dotted x) (c .before .before .before .before .before .before .args .result .now)) (sym (c .before .before .before .before .dot .given .1))
+returns c = exports _ done _ (c .cross-answer .ensures) ∙ ap (λ (x : Dot). dotExport (dotted x) (c .before .before .before .before .before .before .args .result .now)) (sym (c .before .before .before .before .dot .given .1))
 
 returns-2 : tie.Need-returns-2
 returns-2 c = exports _ (refused (c .before .before .before .before .dot2 .given .0 .0)) _ (c .cross-refusal .ensures) ∙ ap (λ (x : Dot). dotExport (dotted x) (c .before .before .before .before .before .before .args .result .now)) (sym (c .before .before .before .before .dot2 .given .1))

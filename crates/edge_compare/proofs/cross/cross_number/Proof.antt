@@ -1,17 +1,15 @@
 -- `edge_compare::cross::cross_number` meets its contract. Assumes nothing.
 use mathlib.Core.Path.{sym, ap, _∙_}
 use borrow.Author.Needs.{needs}
-use Rattle.blocks.specs.declared.partition.Number.{Number}
-use Rattle.edge.specs.Edge.{crossed}
-use Rattle.edge_compare.specs.Compare.{numberTold}
+use Rattle.edge_compare.specs.Compare.{numberLooked}
 use Rattle.edge_compare.proofs.cross.cross_number.Statement.{statement}
 use Rattle.edge_compare.proofs.cross.cross_number.Tie as tie
 
 returns : tie.Need-returns
-returns c = c .cross-values .ensures ∙ ap (λ (x : Number). crossed (numberTold x)) (sym (c .before .before .before .before .number .given .1))
+returns c = c .cross-looked .ensures ∙ ap numberLooked (sym (c .before .before .before .before .number .given .1))
 
 returns-2 : tie.Need-returns-2
-returns-2 c = c .cross-values2 .ensures ∙ ap (λ (x : Number). crossed (numberTold x)) (sym (c .before .before .before .enum-told .given .1))
+returns-2 c = c .cross-looked2 .ensures ∙ ap numberLooked (sym (c .before .before .before .enum-told .given .1))
 
 pub cross-number-spec : {M : Type 1} → statement M
 cross-number-spec = tie.close (tie.spec (λ c. search needs) (λ c κs. search needs) (λ c. search needs) (λ c κs. search needs) returns returns-2)

@@ -10,7 +10,7 @@ use Rattle.edge_compare.proofs.cross.cross_term.Statement.{statement}
 use Rattle.edge_compare.proofs.cross.cross_term.Tie as tie
 
 returns : tie.Need-returns
-returns c = exports _ done _ (c .cross-values .ensures) ∙ ap (λ (x : DiagonalTerm). termExport (termed x) (c .before .before .before .before .before .before .args .result .now)) (sym (c .before .before .before .before .term .given .1))
+returns c = exports _ done _ (c .cross-answer .ensures) ∙ ap (λ (x : DiagonalTerm). termExport (termed x) (c .before .before .before .before .before .before .args .result .now)) (sym (c .before .before .before .before .term .given .1))
 
 returns-2 : tie.Need-returns-2
 returns-2 c = exports _ (refused (c .before .before .before .before .term2 .given .0 .0)) _ (c .cross-refusal .ensures) ∙ ap (λ (x : DiagonalTerm). termExport (termed x) (c .before .before .before .before .before .before .args .result .now)) (sym (c .before .before .before .before .term2 .given .1))
