@@ -1,0 +1,18 @@
+#!/usr/bin/env bash
+# No line of a page is above 160 characters, rows of tables apart.
+set -euo pipefail
+cd "$(dirname "${BASH_SOURCE[0]}")/.."
+
+# the lines of a file that are too long: MOST, and then the file
+long() {
+    awk -v most="$1" 'length($0) > most && !/^\|/ { print FILENAME ":" FNR ": " length($0) }' "$2"
+}
+
+made=$(mktemp)
+trap 'rm "$made"' EXIT
+printf '%0161d\n%0160d\n| %0161d\n' 0 0 0 > "$made"
+[ "$(LC_ALL=C long 160 "$made")" = "$made:1: 161" ] || { echo "pages: the test itself is broken"; exit 1; }
+
+found=$(for f in *.md docs/*.md host/*.md oracle/*.md; do LC_ALL=C.UTF-8 long 160 "$f"; done)
+[ -z "$found" ] || { echo "$found"; exit 1; }
+echo "pages: no line is too long"
