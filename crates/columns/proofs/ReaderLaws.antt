@@ -1,5 +1,6 @@
--- A reader's walk over a column. At each turn it knows the least row that may stand at its place, and that no row before it is bad: so it
--- stops at the first bad row, or at the column's end. A column's own part of the rows has its bad rows where the column has them. Assumes nothing.
+-- A reader's walk over a column. At each turn it knows the least row that may stand at its place, and that no row before it is bad: so where
+-- it stops is the first bad row, or the column's end. And a bad row stands as far into the column's own part of the rows as it stands from the
+-- column's first place. Assumes nothing.
 use mathlib.Core.Path.{_≡_, refl, sym, ap, _∙_}
 use mathlib.Core.Bool.{Bool, true, false, _&&_, _||_, cond}
 use mathlib.Core.List.{List}
@@ -30,6 +31,7 @@ least-next : (rows : List ℕ) (p : ℕ) → getD rows p 0 + 1 ≡ leastAt rows 
 unfolding leastAt
 least-next rows p = let q : p + 1 - 1 ≡ p = omega arith in rw (lt-ltb 0 (p + 1) (omega arith), q)
 
+-- a row is bad that is too large or below that
 row-is : (nrows : ℕ) (rows : List ℕ) (p : ℕ) → (leb nrows (getD rows p 0) || ltb (getD rows p 0) (leastAt rows p)) ≡ rowBad nrows rows 0 p
 unfolding rowBad rowFalls leastAt
 row-is nrows rows p = ap (λ (b : Bool). leb nrows (getD rows p 0) || b) (go (ltb 0 p))
@@ -52,9 +54,11 @@ module _ (nrows : ℕ) (rows : List ℕ) where
   pub record Walked : Type 0 where
     pub at : ℕ
     pub least : ℕ
+    -- it is a number of the machine's
     pub fits : least < 2 ^ 64
     pub inside : at ≤ length rows
     pub floor : least ≡ leastAt rows at
+    -- no row before is bad
     pub rest : first bad at (length rows) ≡ first bad 0 (length rows)
 
   abbrev pub walk-start : Walked

@@ -18,7 +18,7 @@ pub(crate) enum Step {
 }
 
 // The work: what stands at a place.
-pub(crate) fn step_at(rows: &[u32], at: usize) -> Step
+fn step_at(rows: &[u32], at: usize) -> Step
     ensures { λ r. ⌜ r ≡ stepAt (now (rows .entry)) at ⌝ }
 {
     if at < rows.len() {

@@ -98,7 +98,7 @@ pub fn sweep_column(
     sweep_entries(sign, rows, values, x, lo, hi, y);
 }
 
-// A sum with one product taken in. No zero is skipped.
+// A sum with one product taken in, whatever its factors are.
 fn add_term(acc: f64, v: f64, x: f64) -> f64
     ensures { λ r. ⌜ r ≡ add binary64 acc (product (term v x)) ⌝ }
 {

@@ -1,6 +1,9 @@
--- `columns::check::walk_column` meets its contract: a walk of its MIR, by hand. A reader is kept in a local, and each turn of the loop asks what it has come to and stores the moved one in its place.
--- What a turn starts from is `Inv`: the reader at a place of s, the least row that may stand there, and the facts of both (`Walked`). A turn leaves at a bad row or at the end, and otherwise starts the next one a place further on, so what is left of the rows is less.
--- A reader is Copy: what it owns is had twice where it is passed on. What a number, a truth value and a step own is made anew from their facts. Of the five functions that are called all that the proof knows is that each meets its contract.
+-- `columns::check::walk_column` meets its contract: a walk of its MIR, by hand. One reader is kept in a local, and each turn of the loop asks
+-- what it has come to and stores the moved reader in its place.
+-- A turn starts from `Inv`: the reader of s at a place, the least row that may stand there, and what is known of both (`Walked`). It returns the
+-- place at a bad row or at the end. Else the next turn starts one place on, with fewer rows left: that is why the loop ends.
+-- A reader is Copy: what it owns is had twice, and one copy goes to the function called. What a number, a truth value or a step owns is made
+-- anew from its facts. All that the proof knows of the five functions called is that each meets its contract.
 -- Assumes nothing.
 use mathlib.Core.Path.{_≡_, refl, sym, ap, _∙_}
 use mathlib.Core.Bool.{Bool, true, false, not}

@@ -1,5 +1,7 @@
--- `columns::reader::moved` meets its contract: a walk of its MIR, by hand. A reader is made anew of the rows that the one passed holds, and the place after its own. That this place fits its type follows from the rows' length: the contract asks that the reader is not at the end.
--- The struct is Copy: what it owns is had twice, one copy is kept whole for the exit, and the other, with the facts of the new place for those of the old one, is what the result owns.
+-- `columns::reader::moved` meets its contract: a walk of its MIR, by hand. A reader is made anew of the rows that the one passed holds and the
+-- place after its own, which fits its type: the contract asks that the reader is not at the end, and the rows' length fits.
+-- The struct is Copy: what it owns is had twice. One copy is kept whole for the exit, and the other, with the facts of the new place for those
+-- of the old one, is what the result owns.
 -- Assumes nothing.
 use mathlib.Core.Path.{refl}
 use Prim.Native.Nat.{_+_, _<_, _^_}
