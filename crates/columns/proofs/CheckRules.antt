@@ -1,12 +1,12 @@
 -- What the loops of src/check.rt and the length check show, for `search`. Assumes nothing.
-use mathlib.Core.Path.{_≡_, refl, sym, ap, _∙_}
-use mathlib.Core.Bool.{Bool, true, false, _&&_, _||_, cond}
+use mathlib.Core.Path.{_≡_, refl, sym, _∙_}
+use mathlib.Core.Bool.{Bool, true, false, _&&_, _||_}
 use mathlib.Core.List.{List, [], _∷_}
 use Prim.Native.Nat.{ℕ, zero, suc, _+_, _-_, _/_, _≤_, _<_}
 use native.Mathlib.Omega.{arith}
 use lib.Dec.{ltb, leb}
 use lib.ListN.{length, getD}
-use borrow.Author.Tests.{lt-ltb, le-ltb, lt-leb, ltb-true, leb-true, leb-false}
+use borrow.Author.Tests.{lt-ltb, le-ltb, lt-leb, ltb-true, leb-false}
 use Rattle.ground.specs.First.{first, some, None}
 use Rattle.ground.proofs.FirstLaws.{first-none, first-low, first-bad, past-none, none-past, some-at}
 use Rattle.ground.proofs.Rules.{searches}
@@ -21,36 +21,6 @@ unfolding falls
 pointers-read ptrs j = refl
 
 -- ---- the rows
-
--- the least row that may stand at place p of a column that begins at `from`
-unfoldable pub leastAt : List ℕ → ℕ → ℕ → ℕ
-leastAt rows from p = cond (ltb from p) (getD rows (p - 1) 0 + 1) 0
-
-pub least-first : (rows : List ℕ) (from : ℕ) → 0 ≡ leastAt rows from from
-unfolding leastAt
-least-first rows from = rw (le-ltb from from (omega arith))
-
-pub least-next : (rows : List ℕ) (from p row : ℕ) → from ≤ p → row ≡ getD rows p 0 → row + 1 ≡ leastAt rows from (p + 1)
-unfolding leastAt
-least-next rows from p row l e = let q : p + 1 - 1 ≡ p = omega arith in rw (lt-ltb from (p + 1) (omega arith), q, e)
-
-module _ (nrows : ℕ) (rows : List ℕ) (from p : ℕ) where
-  row-is : (leb nrows (getD rows p 0) || ltb (getD rows p 0) (leastAt rows from p)) ≡ rowBad nrows rows from p
-  unfolding rowBad rowFalls leastAt
-  row-is = ap (λ (b : Bool). leb nrows (getD rows p 0) || b) (go (ltb from p) refl)
-    where
-      at : (b : Bool) → leb (getD rows p 0) (getD rows (p - 1) 0) ≡ b → ltb (getD rows p 0) (getD rows (p - 1) 0 + 1) ≡ b
-      at true e = lt-ltb (getD rows p 0) (getD rows (p - 1) 0 + 1) (omega (arith, leb-true (getD rows p 0) (getD rows (p - 1) 0) e))
-      at false e = le-ltb (getD rows p 0) (getD rows (p - 1) 0 + 1) (omega (arith, leb-false (getD rows p 0) (getD rows (p - 1) 0) e))
-
-      go : (b : Bool) → ltb from p ≡ b → ltb (getD rows p 0) (cond b (getD rows (p - 1) 0 + 1) 0) ≡ (b && leb (getD rows p 0) (getD rows (p - 1) 0))
-      go true e = at (leb (getD rows p 0) (getD rows (p - 1) 0)) refl
-      go false e = le-ltb (getD rows p 0) 0 (omega arith)
-
-  -- t is what `row_bad` answered
-  pub row-told : (row least : ℕ) (t b : Bool) → t ≡ (leb nrows row || ltb row least) → row ≡ getD rows p 0 → least ≡ leastAt rows from p → t ≡ b → rowBad nrows rows from p ≡ b
-  row-told row least t b call e q test =
-      sym (ap (λ (r : ℕ). leb nrows r || ltb r least) e ∙ ap (λ (l : ℕ). leb nrows (getD rows p 0) || ltb (getD rows p 0) l) q ∙ row-is) ∙ sym call ∙ test
 
 -- A column's rows as a whole: where its last row is not too large, some entry is bad exactly where one is not above the one before it.
 module _ (nrows : ℕ) (rows : List ℕ) (from to : ℕ) where
@@ -125,4 +95,4 @@ module _ (n k : ℕ) (exact : Bool) (pairs : List ℕ) (e : k ≡ badPair exact 
   unfolding pairsTold
   pairs-done l = rw (← e, le-ltb k (length pairs / 2) l)
 
-pub ruleset checking = (searches, falls-read, or-of, pointers-read, least-first, least-next, row-told, pair-short, pair-long, pair-fine, pair-told, pairs-done)
+pub ruleset checking = (searches, falls-read, or-of, pointers-read, pair-short, pair-long, pair-fine, pair-told, pairs-done)

@@ -39,10 +39,11 @@ pub lands : (sign : Sign) (rows : List ℕ) (values : List Float) (x : Float) (p
 unfolding landing landed
 lands sign rows values x p r z y e q = rw (q, e) (sym (folded-one (landed sign) y _))
 
-pub adds : (rows : List ℕ) (values y : List Float) (p r : ℕ) (acc : Float) → r ≡ getD rows p 0
-    → add binary64 acc (mul binary64 (getD values p nan) (getD y r nan)) ≡ sumFrom acc (entryTerm rows values y p)
+-- r is the row number that the code read, z the sum that it was told
+pub adds : (rows : List ℕ) (values y : List Float) (p r : ℕ) (acc z : Float) → r ≡ getD rows p 0
+    → z ≡ add binary64 acc (mul binary64 (getD values p nan) (getD y r nan)) → z ≡ sumFrom acc (entryTerm rows values y p)
 unfolding entryTerm addTerm
-adds rows values y p r acc e = rw e (sym (folded-one addTerm acc _))
+adds rows values y p r acc z e q = rw (q, e) (sym (folded-one addTerm acc _))
 
 pub squares : (values : List Float) (p : ℕ) (acc : Float) → add binary64 acc (mul binary64 (getD values p nan) (getD values p nan)) ≡ sumFrom acc (squareTerm values p)
 unfolding squareTerm addTerm

@@ -1,5 +1,8 @@
 // The check that columns keep the rules: refusals 1, 2 and 3.
-use crate::reader::row_in;
+use crate::reader::Step;
+use crate::reader::moved;
+use crate::reader::next;
+use crate::reader::reader;
 use crate::refusal::Answer;
 use crate::refusal::Refusal;
 use crate::unchecked::end_place;
@@ -14,6 +17,7 @@ ghost use Rattle.ground.specs.First.{first, some};
 ghost use Rattle.columns.specs.Refusals.{told};
 ghost use Rattle.columns.specs.Columns.{columnsOf, tooBig, falls, badShape, rowFalls, rowBad, badRow, checked, Shaped};
 ghost use Rattle.columns.specs.Unchecked.{ColumnThere, RunThere};
+ghost use Rattle.columns.specs.Reader.{stopsAt, aboveOf};
 ghost use Rattle.columns.specs.Rises.{bitOf, count, rowRises, beginsLow, endsHigh, allRise, RisesFit};
 
 const MOST_ROWS: usize = 1_048_576;
@@ -94,21 +98,48 @@ fn row_bad(nrows: usize, row: usize, least: usize) -> bool
     row < least
 }
 
+// Whether a walk stops at what its reader has come to: at a bad row, and at the column's end.
+fn stops(nrows: usize, step: Step, least: usize) -> bool
+    ensures { λ r. ⌜ r ≡ stopsAt nrows least step ⌝ }
+{
+    match step {
+        Step::Row(row) => row_bad(nrows, wide(row), least),
+        Step::End => true,
+    }
+}
+
+// The least row that may stand after this one; 0 after the end.
+fn above(step: Step) -> usize
+    ensures { λ r. ⌜ r ≡ aboveOf step ⌝ }
+{
+    match step {
+        Step::Row(row) => wide(row) + 1,
+        Step::End => 0,
+    }
+}
+
+// How far into a column's own rows the first bad one stands, or their end. One reader is kept, and moved from the first row on.
+fn walk_column(nrows: usize, rows: &[u32]) -> usize
+    ensures { λ r. ⌜ r ≡ first (rowBad nrows (now (rows .entry)) 0) 0 (length (now (rows .entry))) ⌝ }
+{
+    let mut r = reader(rows);
+    let mut least: usize = 0;
+    loop {
+        let step = next(r);
+        if stops(nrows, step, least) {
+            return r.at;
+        }
+        least = above(step);
+        r = moved(r);
+    }
+}
+
 // The first bad entry of the column that begins at `from` and ends before `to`, or `to`.
 fn bad_place(nrows: usize, rows: &[u32], from: usize, to: usize) -> usize
     requires { ⌜ RunThere (length (now rows)) from to ⌝ }
     ensures { λ r. ⌜ r ≡ first (rowBad nrows (now (rows .entry)) from) from to ⌝ }
 {
-    let mut least: usize = 0;
-    for p in from..to {
-        let row = row_in(rows, p);
-        if row_bad(nrows, row, least) {
-            return p;
-        }
-        // what comes next stands above this row
-        least = row + 1;
-    }
-    to
+    from + walk_column(nrows, &rows[from..to])
 }
 
 // Whether the row at place p is not above the one before it.

@@ -1,24 +1,24 @@
-// One column's walk: a small reader that carries the row numbers it walks over, and the place that it has come to. Each function over it takes it
-// apart and leaves the work to a plain function on slice and number; callers without a reader use `row_in`.
-use ground::wide;
+// One column's walk: a small reader that carries the row numbers it walks over, and the place that it has come to. It is lent the column's own
+// rows, so their end is the column's end. Each function over it takes it apart or makes it anew; what stands at a place is told by a plain
+// function on slice and number.
 ghost use mathlib.Core.Path.{_≡_};
-ghost use Prim.Native.Nat.{_<_, _^_};
-ghost use lib.ListN.{getD};
+ghost use Prim.Native.Nat.{_+_, _<_};
+ghost use lib.ListN.{length};
 ghost use Rattle.columns.specs.Reader.{stepAt};
 
 pub(crate) struct ColumnReader<'a> {
     rows: &'a [u32],
-    at: usize,
+    pub(crate) at: usize,
 }
 
-// What a reader comes to: a row number, or the end of its rows.
+// What a reader comes to: a row number, or the column's end.
 pub(crate) enum Step {
     Row(u32),
     End,
 }
 
 // The work: what stands at a place.
-pub(crate) fn step_at(rows: &[u32], at: usize) -> Step
+fn step_at(rows: &[u32], at: usize) -> Step
     ensures { λ r. ⌜ r ≡ stepAt (now (rows .entry)) at ⌝ }
 {
     if at < rows.len() {
@@ -27,11 +27,11 @@ pub(crate) fn step_at(rows: &[u32], at: usize) -> Step
     Step::End
 }
 
-// A reader of these rows, at a place of theirs.
-pub(crate) fn reader<'a>(rows: &'a [u32], at: usize) -> ColumnReader<'a>
-    ensures { λ r. ⌜ (r .rows ≡ rows .entry) × (r .at ≡ at) ⌝ }
+// A reader of a column's rows, at the first one.
+pub(crate) fn reader<'a>(rows: &'a [u32]) -> ColumnReader<'a>
+    ensures { λ r. ⌜ (r .rows ≡ rows .entry) × (r .at ≡ 0) ⌝ }
 {
-    ColumnReader { rows, at }
+    ColumnReader { rows, at: 0 }
 }
 
 // What it has come to.
@@ -41,19 +41,13 @@ pub(crate) fn next<'a>(r: ColumnReader<'a>) -> Step
     step_at(r.rows, r.at)
 }
 
-// What a reader comes to at a place, of plain parameters.
-pub(crate) fn step_in(rows: &[u32], at: usize) -> Step
-    ensures { λ r. ⌜ r ≡ stepAt (now (rows .entry)) at ⌝ }
+// The reader one place on. At the end there is no place to go to.
+pub(crate) fn moved<'a>(r: ColumnReader<'a>) -> ColumnReader<'a>
+    requires { ⌜ r .at < length (now (r .rows)) ⌝ }
+    ensures { λ q. ⌜ (q .rows ≡ r .entry .rows) × (q .at ≡ r .entry .at + 1) ⌝ }
 {
-    next(reader(rows, at))
-}
-
-// The row number at a place; 0 past the end.
-pub(crate) fn row_in(rows: &[u32], at: usize) -> usize
-    ensures { λ r. ⌜ (r ≡ getD (now (rows .entry)) at 0) × (r < 2 ^ 32) ⌝ }
-{
-    match step_in(rows, at) {
-        Step::Row(row) => wide(row),
-        Step::End => 0,
+    ColumnReader {
+        rows: r.rows,
+        at: r.at + 1,
     }
 }

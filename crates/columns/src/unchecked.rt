@@ -3,10 +3,11 @@
 use ground::wide;
 ghost use mathlib.Core.Path.{_≡_};
 ghost use Prim.Native.Nat.{_<_};
+ghost use lib.Ieee.{binary64, add};
 ghost use lib.ListN.{length};
 ghost use Rattle.ground.specs.Gather.{gather};
 ghost use Rattle.columns.specs.Columns.{columnsOf, firstIn, endIn};
-ghost use Rattle.columns.specs.Sums.{joined, sumFrom, sweptOn};
+ghost use Rattle.columns.specs.Sums.{term, product, joined, sumFrom, sweptOn};
 ghost use Rattle.columns.specs.JacobianOps.{entryTerm, gatherTerms, landing, landings, sweepTerms, dotOf};
 ghost use Rattle.columns.specs.Unchecked.{ColumnThere, EntryFits, EntriesFit, HasColumn, HasColumns, MergeFits, mergeStep};
 
@@ -97,13 +98,20 @@ pub fn sweep_column(
     sweep_entries(sign, rows, values, x, lo, hi, y);
 }
 
+// A sum with one product taken in, whatever its factors are.
+fn add_term(acc: f64, v: f64, x: f64) -> f64
+    ensures { λ r. ⌜ r ≡ add binary64 acc (product (term v x)) ⌝ }
+{
+    acc + v * x
+}
+
 // The entry at place p with what y holds at its row, added to acc.
 fn add_entry(rows: &[u32], values: &[f64], p: usize, y: &[f64], acc: f64) -> f64
     requires { ⌜ EntryFits (now rows) (length (now values)) (length (now y)) p ⌝ }
     ensures { λ r. ⌜ r ≡ sumFrom acc (entryTerm (now (rows .entry)) (now (values .entry)) (now (y .entry)) p) ⌝ }
 {
     let r = wide(rows[p]);
-    acc + values[p] * y[r]
+    add_term(acc, values[p], y[r])
 }
 
 // The sum over places lo up to hi, from start. No zero is skipped.

@@ -1,21 +1,23 @@
--- `columns::check::bad_place` meets its contract. Assumes nothing.
-use Prim.Native.Nat.{_-_, _≤_}
-use mathlib.Core.Path.{_≡_}
-use Rattle.columns.specs.Columns.{rowBad}
-use Rattle.ground.specs.First.{first}
-use Rattle.columns.proofs.CheckRules.{leastAt, checking}
+-- `columns::check::bad_place` meets its contract: the walk is over the column's own part of the rows. Assumes nothing.
+use native.Mathlib.Omega.{arith}
+use Rattle.columns.proofs.CheckRules.{checking}
+use Rattle.columns.proofs.ReaderLaws.{place-of, place-in}
 use Rattle.columns.proofs.check.bad_place.Statement.{statement}
 use Rattle.columns.proofs.check.bad_place.Tie as tie
 
-abbrev Inv-loop : tie.InvT-loop
-Inv-loop nrows rows from to least₀ p₀ least p =
-    (from ≤ p) × (p ≤ to) × (least ≡ leastAt rows from p) × (first (rowBad nrows rows from) p to ≡ first (rowBad nrows rows from) from to)
+add-result : tie.Need-add-result
+add-result c =
+    let s : tie.Start = search in
+    let a = s .args in
+    omega (arith, s .pre, place-in (a .nrows) (a .rows .now) (a .from) (a .to) (s .pre) (c .walk-column .result) (c .walk-column .ensures))
 
-abbrev μ-loop : tie.MeasureT-loop
-μ-loop nrows rows from to least₀ p₀ least p = to - p
+returns : tie.Need-returns
+returns c =
+    let s : tie.Start = search in
+    let a = s .args in
+    place-of (a .nrows) (a .rows .now) (a .from) (a .to) (s .pre) (c .walk-column .result) (c .walk-column .ensures)
 
 pub bad-place-spec : {M : Type 1} → statement M
 bad-place-spec =
     tie.close (tie.spec
-    Inv-loop μ-loop (λ c. search checking) (λ c κs. search checking) (λ c κs. search checking) (λ c. search checking)
-    (λ c. search checking) (λ c. search checking) (λ c. search checking) (λ c. search checking) (λ c. search checking))
+    (λ c. search checking) (λ c. search checking) (λ c. search checking) (λ c. search checking) (λ c κs. search checking) add-result returns)

@@ -7,4 +7,4 @@ pub add-entry-spec : {M : Type 1} → statement M
 add-entry-spec =
     tie.close (tie.spec
     (λ c. search rules) (λ c. search rules) (λ c κs. search rules) (λ c. search rules) (λ c. search rules) (λ c. search rules)
-    (λ c. search rules) (λ c. search rules))
+    (λ c. search rules) (λ c κs. search rules) (λ c. search rules))
