@@ -21,7 +21,7 @@ ghost use Rattle.columns.specs.Refusals.{told};
 ghost use Rattle.columns.specs.Unchecked.{RunThere};
 ghost use Rattle.products.specs.Orders.{chunkBad};
 ghost use Rattle.products.specs.Side.{eliminated};
-ghost use Rattle.products.specs.PlanCheck.{startsOut, rowsOnly, rowOut, endsOut, inColumn, narrowed, shapeOut, shapeOutAt, rowsOutAt, rowsStop, rowsStopAt, spanOutAt, planTold, Risen, Window, SomeThere, FewThere, EntriesThere, StartsThere, SpansThere, ChunkThere, ChunksThere, PlanThere};
+ghost use Rattle.products.specs.PlanCheck.{startsOut, rowsOnly, rowOut, endsOut, inColumn, narrowed, shapeOut, shapeOutAt, rowsOutAt, rowsStop, rowsStopAt, spanOutAt, spansTold, Risen, Window, SomeThere, FewThere, EntriesThere, StartsThere, SpansThere, ChunkThere, ChunksThere, PlanThere};
 
 // Whether the row at place p is below `from`, or past the `size` rows from there on: one comparison, since what is below `from` wraps.
 fn row_out(rows: &[u32], from: u32, size: u32, p: usize) -> bool
@@ -357,7 +357,7 @@ pub(crate) fn check_plan(
 ) -> Answer
     requires { ⌜ Risen (now ptrs) (now rows) ⌝ }
     requires { ⌜ PlanThere len chunks (length (now starts)) (length (now lo)) (length (now hi)) (length (now local)) ⌝ }
-    ensures { λ r. ⌜ told r ≡ planTold (eliminated side) (rowsOnly (now (rows .entry))) dof len chunks (record { starts = now (starts .entry); lo = now (lo .entry); hi = now (hi .entry); local = now (local .entry) }) ⌝ }
+    ensures { λ r. ⌜ told r ≡ spansTold (eliminated side) (rowsOnly (now (rows .entry))) dof len chunks (record { starts = now (starts .entry); lo = now (lo .entry); hi = now (hi .entry); local = now (local .entry) }) ⌝ }
 {
     if starts_bad(starts, chunks, lo.len()) {
         return Answer::Refused(Refusal::BadPlan {

@@ -13,7 +13,7 @@ ghost use Rattle.columns.specs.Sums.{zero₊, sumFrom, sweptOn};
 ghost use Rattle.blocks.specs.Sides.{dofOf, sideDof};
 ghost use Rattle.blocks.specs.BlockValues.{writing, put};
 ghost use Rattle.products.specs.SideSums.{sideTerms, sideGather, inverseTimes};
-ghost use Rattle.products.specs.SideFits.{localTerms, localSum, written, SideFits, BlockFits, DofsFit, blockTerm, blockRow, TermFits, RowFits, RowsFit, InversesFit};
+ghost use Rattle.products.specs.SideFits.{localTerms, localSum, written, SideFits, SideBlockFits, DofsFit, blockTerm, blockRow, TermFits, RowFits, RowsFit, InversesFit};
 
 // A side's dof. The checks bound it, so the sum fits.
 pub(crate) fn side_dof(side: &[u32]) -> usize
@@ -40,7 +40,7 @@ fn sweep_block(
     v: &[f64],
     y: &mut [f64],
 )
-    requires { ⌜ BlockFits (columnsOf (length (now y)) (now ptrs) (now rows) (now values)) (now side) b at (length (now v)) ⌝ }
+    requires { ⌜ SideBlockFits (columnsOf (length (now y)) (now ptrs) (now rows) (now values)) (now side) b at (length (now v)) ⌝ }
     ensures { λ _. ⌜ now (y .exit) ≡ sweptOn sign (now (y .entry)) (gather (localTerms (columnsOf (length (now (y .entry))) (now (ptrs .entry)) (now (rows .entry)) (now (values .entry))) (now (side .entry)) (now (v .entry))) at (at + dofOf (now (side .entry)) b)) ⌝ }
 {
     let first = wide(side[b + b]);
@@ -83,7 +83,7 @@ fn gather_block(
     start: f64,
     out: &mut [f64],
 )
-    requires { ⌜ BlockFits (columnsOf (length (now y)) (now ptrs) (now rows) (now values)) (now side) b at (length (now out)) ⌝ }
+    requires { ⌜ SideBlockFits (columnsOf (length (now y)) (now ptrs) (now rows) (now values)) (now side) b at (length (now out)) ⌝ }
     ensures { λ _. ⌜ now (out .exit) ≡ written (localSum start (columnsOf (length (now (y .entry))) (now (ptrs .entry)) (now (rows .entry)) (now (values .entry))) (now (side .entry)) (now (y .entry))) at (at + dofOf (now (side .entry)) b) (now (out .entry)) ⌝ }
 {
     let first = wide(side[b + b]);
