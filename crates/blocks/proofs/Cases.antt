@@ -46,8 +46,8 @@ run c = checkBlocks hall (c .kept) (c .elims) (replicate (c .places) 7)
 abbrev left : Told → List ℕ → Mapped
 left t m = record { told = t; map = m }
 
-abbrev marks : List ℕ
-marks = mark ∷ mark ∷ mark ∷ 7 ∷ []
+abbrev allMarked : List ℕ
+allMarked = mark ∷ mark ∷ mark ∷ 7 ∷ []
 
 abbrev cases : List Case
 cases =
@@ -79,10 +79,10 @@ pub worked : map run cases
     ∷ left (tell 4 (0 ∷ [])) (7 ∷ 7 ∷ [])
     ∷ left (tell 4 (1 ∷ [])) (7 ∷ 7 ∷ [])
     ∷ left (tell 6 (0 ∷ 3 ∷ [])) (7 ∷ 7 ∷ [])
-    ∷ left (tell 7 (5 ∷ [])) marks
-    ∷ left (tell 7 (3 ∷ [])) marks
-    ∷ left (tell 8 (1 ∷ [])) marks
-    ∷ left (tell 9 (1 ∷ [])) marks
+    ∷ left (tell 7 (5 ∷ [])) allMarked
+    ∷ left (tell 7 (3 ∷ [])) allMarked
+    ∷ left (tell 8 (1 ∷ [])) allMarked
+    ∷ left (tell 9 (1 ∷ [])) allMarked
     ∷ left done (0 ∷ 1 ∷ 2 ∷ 7 ∷ [])
     ∷ []
 unfolding firstN first gatherN gather onPass pairBad pairsTold firstIn endIn tooBig falls badShape rowBad rowFalls columnBad badRow checked blockColumns tooMany isOdd listsTold emptySide earlyTold blockClaims placeOf claimBad walkTold gapTold blocksTold mapLeft checkBlocks

@@ -12,7 +12,7 @@ use Rattle.columns.specs.Refusals.{told}
 use Rattle.columns.proofs.RefusalLaws.{answerOf, answer-back, told-determined}
 use Rattle.blocks.specs.Claims.{Mapped}
 use Rattle.blocks.proofs.check.check_parts.Reads as parts
-use Rattle.blocks.proofs.check.mark_map.Reads as marks
+use Rattle.blocks.proofs.check.mark_map.Reads as marking
 use Rattle.blocks.proofs.check.walk_blocks.Reads as walk
 use Rattle.blocks.proofs.check.check_blocks.Reads as blocks
 
@@ -25,7 +25,7 @@ mapped-determined =
 pub check-parts : (κs : Lfts 5) (a : _) (s t : _) (p q : Answer) → parts.Post κs a p s → parts.Post κs a q t → p ≡ q
 check-parts κs a s t p q = told-determined _ p q
 
-pub mark-map : (κs : Lfts 1) (a : _) (s t : _) (p q : _) → marks.Post κs a p s → marks.Post κs a q t → now (s .0) ≡ now (t .0)
+pub mark-map : (κs : Lfts 1) (a : _) (s t : _) (p q : _) → marking.Post κs a p s → marking.Post κs a q t → now (s .0) ≡ now (t .0)
 mark-map κs a s t p q = named _ (now (s .0)) (now (t .0))
 
 pub walk-blocks : (κs : Lfts 3) (a : _) (s t : _) (p q : Answer) → walk.Post κs a p s → walk.Post κs a q t

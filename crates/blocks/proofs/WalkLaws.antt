@@ -21,7 +21,7 @@ use Rattle.columns.specs.declared.refusal.Refusal.{Refusal}
 use Rattle.columns.specs.Refusals.{Told, tell, done, refused, number, Passes, onPass}
 use Rattle.columns.proofs.RefusalLaws.{number-some, pass-done, pass-refused, passed}
 use Rattle.blocks.specs.Claims.{mark, marked, placeOf, claimBad, badClaim, walkTold, unclaimed, gapTold}
-use Rattle.blocks.specs.Walk.{isFree, Walked, through, stopped, claimOn, walked, marks, Roomy, Room, Tried, walkBlocks}
+use Rattle.blocks.specs.Walk.{isFree, Walked, through, stopped, claimOn, walked, markCount, Roomy, Room, Tried, walkBlocks}
 use Rattle.blocks.proofs.PlaceLaws.{place-left, place-past, place-new, place-other}
 use Rattle.blocks.proofs.WalkRules.{marked-all, claim-out, claim-twice, claim-free, stopped-all, free-mark, room-step, room-after, walk-keeps, walk-length, walk-drop}
 
@@ -168,8 +168,8 @@ module _ (n : ℕ) (r : List ℕ) where
 
 -- ---- from the start, where every column is marked
 
-marks-all : (k : ℕ) → marks (replicate k mark) ≡ k
-unfolding marks
+marks-all : (k : ℕ) → markCount (replicate k mark) ≡ k
+unfolding markCount
 marks-all zero = refl
 marks-all (suc k) = ap suc (marks-all k)
 
@@ -250,8 +250,8 @@ module _ (n : ℕ) (cs m₀ : List ℕ) where
 
 -- ---- how many claims there are
 
-marks-none : (xs : List ℕ) → ((i : ℕ) → i < length xs → getD xs i 0 ≡ mark → ⊥) → marks xs ≡ 0
-unfolding marks
+marks-none : (xs : List ℕ) → ((i : ℕ) → i < length xs → getD xs i 0 ≡ mark → ⊥) → markCount xs ≡ 0
+unfolding markCount
 marks-none [] ne = refl
 marks-none (x ∷ xs) ne = rw (ne-eqb x mark (ne 0 (omega arith))) (marks-none xs (λ i h. ne (suc i) (omega arith)))
 
@@ -269,7 +269,7 @@ claims-count n cs few p q =
     let e = passed (ltb (unclaimed n cs) n) 8 _ done q .0 in
     let t : take n (o .map) ≡ listOf (placeOf cs) n =
     ap (take n) (f .0 ∙ state-full n (drop n m₀) cs e) ∙ take-at (listOf (placeOf cs) n) (drop n m₀) n (length-listOf (placeOf cs) 0 n) in
-    let k : marks (take n (o .map)) ≡ 0 =
+    let k : markCount (take n (o .map)) ≡ 0 =
     (rw t (marks-none (listOf (placeOf cs) n) (λ i h g.
     let l : i < n = rw (length-listOf (placeOf cs) 0 n) at h in
     let v = getD-listOf (placeOf cs) 0 n i l in

@@ -20,7 +20,7 @@ use Rattle.columns.specs.Refusals.{tell, refused, Passes, onPass}
 use Rattle.columns.proofs.RefusalLaws.{number-some}
 use Rattle.blocks.specs.Sides.{firstOf, dofOf, blockColumns}
 use Rattle.blocks.specs.Claims.{mark, blockClaims, marked}
-use Rattle.blocks.specs.Walk.{isFree, Walked, through, stopped, claimOn, walked, marks, Room}
+use Rattle.blocks.specs.Walk.{isFree, Walked, through, stopped, claimOn, walked, markCount, Room}
 
 -- ---- the mark
 
@@ -107,8 +107,8 @@ module _ (n first dof i next : ℕ) (map : List ℕ) (z : Walked) (l : i < dof) 
 -- ---- the room
 
 -- a store over a mark takes one away
-marks-set : (l : List ℕ) (i v : ℕ) → i < length l → getD l i 0 ≡ mark → (v ≡ mark → ⊥) → suc (marks (set l i v)) ≡ marks l
-unfolding marks
+marks-set : (l : List ℕ) (i v : ℕ) → i < length l → getD l i 0 ≡ mark → (v ≡ mark → ⊥) → suc (markCount (set l i v)) ≡ markCount l
+unfolding markCount
 marks-set [] i v h e ne = absurd (not-suc-le-zero h)
 marks-set (x ∷ xs) zero v h e ne = rw (eq-eqb _ _ e, ne-eqb _ _ ne)
 marks-set (x ∷ xs) (suc i) v h e ne = go (eqb x mark) (marks-set xs i v (le-of-suc-le-suc h) e ne)

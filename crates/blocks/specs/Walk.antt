@@ -47,9 +47,9 @@ walked n s cs = folded (claimOn n) s cs
 -- ---- what the walk's functions ask
 
 -- how many marks a list holds
-unfoldable pub marks : List ℕ → ℕ
-marks [] = 0
-marks (x ∷ xs) = cond (eqb x mark) (suc (marks xs)) (marks xs)
+unfoldable pub markCount : List ℕ → ℕ
+markCount [] = 0
+markCount (x ∷ xs) = cond (eqb x mark) (suc (markCount xs)) (markCount xs)
 
 -- n columns are few, and the map has room for them
 pub record Roomy (n places : ℕ) : Type 0 where
@@ -59,11 +59,11 @@ pub record Roomy (n places : ℕ) : Type 0 where
 -- so it is, and as many columns are free as local numbers are left from `next` on
 pub record Room (n next : ℕ) (map : List ℕ) : Type 0 where
   pub roomy : Roomy n (length map)
-  pub free : next + marks (take n map) ≡ n
+  pub free : next + markCount (take n map) ≡ n
 
 -- so it is, and block b is one of a list of that length
-pub record BlockWalks (length b n next : ℕ) (map : List ℕ) : Type 0 where
-  pub there : b + b + 1 < length
+pub record BlockWalks (size b n next : ℕ) (map : List ℕ) : Type 0 where
+  pub there : b + b + 1 < size
   pub room : Room n next map
 
 -- ---- the whole of 7 to 9

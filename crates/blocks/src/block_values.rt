@@ -11,7 +11,20 @@ ghost use Rattle.ground.specs.Fold.{folded};
 ghost use Rattle.ground.specs.Range.{range};
 ghost use Rattle.ground.specs.Gather.{gather};
 ghost use Rattle.columns.specs.Columns.{columnsOf};
-ghost use Rattle.blocks.specs.BlockValues.{valueCount, dotColumn, dotBlocks, writing, put, dampPlace, dampColumn, dampBlocks, ColumnFits, BlockFits, ValuesFit, BlocksFit};
+ghost use Rattle.blocks.specs.BlockValues.{
+  valueCount,
+  dotColumn,
+  dotBlocks,
+  writing,
+  put,
+  dampPlace,
+  dampColumn,
+  dampBlocks,
+  ColumnFits,
+  BlockFits,
+  ValuesFit,
+  BlocksFit,
+};
 
 // Column `col` of a block, from `at` on.
 fn put_column(
@@ -26,7 +39,9 @@ fn put_column(
     out: &mut [f64],
 )
     requires { ⌜ ColumnFits (columnsOf nrows (now ptrs) (now rows) (now values)) first dof col at (length (now out)) ⌝ }
-    ensures { λ _. ⌜ writing (at + dof) (now (out .exit)) ≡ folded put (writing at (now (out .entry))) (dotColumn (columnsOf nrows (now (ptrs .entry)) (now (rows .entry)) (now (values .entry))) first dof col) ⌝ }
+    ensures { λ _.
+        let m = columnsOf nrows (now (ptrs .entry)) (now (rows .entry)) (now (values .entry)) in
+        ⌜ writing (at + dof) (now (out .exit)) ≡ folded put (writing at (now (out .entry))) (dotColumn m first dof col) ⌝ }
 {
     for r in 0..dof {
         out[at + r] = dot_columns(nrows, ptrs, rows, values, first + r, first + col);
@@ -45,7 +60,9 @@ fn put_block(
     out: &mut [f64],
 )
     requires { ⌜ BlockFits (columnsOf nrows (now ptrs) (now rows) (now values)) first dof at (length (now out)) ⌝ }
-    ensures { λ _. ⌜ writing (at + dof * dof) (now (out .exit)) ≡ folded put (writing at (now (out .entry))) (gather (dotColumn (columnsOf nrows (now (ptrs .entry)) (now (rows .entry)) (now (values .entry))) first dof) 0 dof) ⌝ }
+    ensures { λ _.
+        let m = columnsOf nrows (now (ptrs .entry)) (now (rows .entry)) (now (values .entry)) in
+        ⌜ writing (at + dof * dof) (now (out .exit)) ≡ folded put (writing at (now (out .entry))) (gather (dotColumn m first dof) 0 dof) ⌝ }
 {
     for c in 0..dof {
         put_column(nrows, ptrs, rows, values, first, dof, c, at + c * dof, out);

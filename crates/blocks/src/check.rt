@@ -77,7 +77,9 @@ pub fn check_parts(
     elims: &[u32],
     rest: Answer,
 ) -> Answer
-    ensures { λ r. ⌜ told r ≡ partsTold (columnsOf nrows (now (ptrs .entry)) (now (rows .entry)) (now (values .entry))) (now (kept .entry)) (now (elims .entry)) (told rest) ⌝ }
+    ensures { λ r.
+        let m = columnsOf nrows (now (ptrs .entry)) (now (rows .entry)) (now (values .entry)) in
+        ⌜ told r ≡ partsTold m (now (kept .entry)) (now (elims .entry)) (told rest) ⌝ }
 {
     let lists = sooner(
         check_columns(nrows, ptrs, rows, values),
@@ -96,7 +98,9 @@ fn check_early(
     elims: &[u32],
     map: &[u32],
 ) -> Answer
-    ensures { λ r. ⌜ told r ≡ earlyTold (columnsOf nrows (now (ptrs .entry)) (now (rows .entry)) (now (values .entry))) (now (kept .entry)) (now (elims .entry)) (now (map .entry)) ⌝ }
+    ensures { λ r.
+        let m = columnsOf nrows (now (ptrs .entry)) (now (rows .entry)) (now (values .entry)) in
+        ⌜ told r ≡ earlyTold m (now (kept .entry)) (now (elims .entry)) (now (map .entry)) ⌝ }
 {
     let room = [map.len(), column_count(ptrs)];
     check_parts(nrows, ptrs, rows, values, kept, elims, no_room(&room))
@@ -219,7 +223,8 @@ fn try_blocks(kept: &[u32], elims: &[u32], n: usize, map: &mut [u32]) -> Answer
 // Refusals 7 to 9, and the map that they leave: for calls that have made the earlier checks.
 pub fn walk_blocks(kept: &[u32], elims: &[u32], n: usize, map: &mut [u32]) -> Answer
     requires { ⌜ Roomy n (length (now map)) ⌝ }
-    ensures { λ r. ⌜ record { told = told r; map = now (map .exit) } ≡ walkBlocks n (claims n (now (kept .entry)) (now (elims .entry))) (now (map .entry)) ⌝ }
+    ensures { λ r.
+        ⌜ record { told = told r; map = now (map .exit) } ≡ walkBlocks n (claims n (now (kept .entry)) (now (elims .entry))) (now (map .entry)) ⌝ }
 {
     let tried = try_blocks(kept, elims, n, map);
     if let Answer::Refused(r) = tried {
@@ -239,7 +244,9 @@ pub fn check_blocks(
     elims: &[u32],
     map: &mut [u32],
 ) -> Answer
-    ensures { λ r. ⌜ record { told = told r; map = now (map .exit) } ≡ checkBlocks (columnsOf nrows (now (ptrs .entry)) (now (rows .entry)) (now (values .entry))) (now (kept .entry)) (now (elims .entry)) (now (map .entry)) ⌝ }
+    ensures { λ r.
+        let m = columnsOf nrows (now (ptrs .entry)) (now (rows .entry)) (now (values .entry)) in
+        ⌜ record { told = told r; map = now (map .exit) } ≡ checkBlocks m (now (kept .entry)) (now (elims .entry)) (now (map .entry)) ⌝ }
 {
     let early = check_early(nrows, ptrs, rows, values, kept, elims, map);
     if let Answer::Refused(r) = early {

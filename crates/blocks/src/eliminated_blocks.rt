@@ -155,7 +155,10 @@ fn check_values(
     n: usize,
     more: Answer,
 ) -> Answer
-    ensures { λ r. ⌜ record { told = told r; map = now (map .exit) } ≡ checkValues (columnsOf nrows (now (ptrs .entry)) (now (rows .entry)) (now (values .entry))) (now (kept .entry)) (now (elims .entry)) (now (map .entry)) n (told more) ⌝ }
+    ensures { λ r.
+        let m = columnsOf nrows (now (ptrs .entry)) (now (rows .entry)) (now (values .entry)) in
+        ⌜ record { told = told r; map = now (map .exit) }
+        ≡ checkValues m (now (kept .entry)) (now (elims .entry)) (now (map .entry)) n (told more) ⌝ }
 {
     let checked = check_blocks(nrows, ptrs, rows, values, kept, elims, map);
     if let Answer::Refused(r) = checked {
@@ -181,7 +184,10 @@ pub fn gather_from_jacobian(
     map: &mut [u32],
     block_values: &mut [f64],
 ) -> Answer
-    ensures { λ r. ⌜ record { told = told r; map = now (map .exit); values = now («block_values» .exit) } ≡ gatherFromJacobian (columnsOf nrows (now (ptrs .entry)) (now (rows .entry)) (now (values .entry))) (now (kept .entry)) (now (elims .entry)) (now (map .entry)) (now («block_values» .entry)) ⌝ }
+    ensures { λ r.
+        let m = columnsOf nrows (now (ptrs .entry)) (now (rows .entry)) (now (values .entry)) in
+        ⌜ record { told = told r; map = now (map .exit); values = now («block_values» .exit) }
+        ≡ gatherFromJacobian m (now (kept .entry)) (now (elims .entry)) (now (map .entry)) (now («block_values» .entry)) ⌝ }
 {
     let checked = check_values(
         nrows,
@@ -213,7 +219,10 @@ pub fn damp(
     damping: Damping,
     block_values: &mut [f64],
 ) -> Answer
-    ensures { λ r. ⌜ record { told = told r; map = now (map .exit); values = now («block_values» .exit) } ≡ dampValues (columnsOf nrows (now (ptrs .entry)) (now (rows .entry)) (now (values .entry))) (now (kept .entry)) (now (elims .entry)) (now (map .entry)) damping (now («block_values» .entry)) ⌝ }
+    ensures { λ r.
+        let m = columnsOf nrows (now (ptrs .entry)) (now (rows .entry)) (now (values .entry)) in
+        ⌜ record { told = told r; map = now (map .exit); values = now («block_values» .exit) }
+        ≡ dampValues m (now (kept .entry)) (now (elims .entry)) (now (map .entry)) damping (now («block_values» .entry)) ⌝ }
 {
     let checked = check_values(
         nrows,

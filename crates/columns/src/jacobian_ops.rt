@@ -63,7 +63,9 @@ pub fn column_dot(
 // One gather per column, ascending.
 fn gather_columns(ptrs: &[u32], rows: &[u32], values: &[f64], v: &[f64], out: &mut [f64])
     requires { ⌜ Gathers (columnsOf (length (now v)) (now ptrs) (now rows) (now values)) (length (now out)) ⌝ }
-    ensures { λ _. ⌜ now (out .exit) ≡ listOf (gathered (columnsOf (length (now (v .entry))) (now (ptrs .entry)) (now (rows .entry)) (now (values .entry))) (now (v .entry))) (length (now (out .entry))) ⌝ }
+    ensures { λ _.
+        let m = columnsOf (length (now (v .entry))) (now (ptrs .entry)) (now (rows .entry)) (now (values .entry)) in
+        ⌜ now (out .exit) ≡ listOf (gathered m (now (v .entry))) (length (now (out .entry))) ⌝ }
 {
     for j in 0..out.len() {
         out[j] = gather_column(ptrs, rows, values, j, v, -0.0);
@@ -72,7 +74,9 @@ fn gather_columns(ptrs: &[u32], rows: &[u32], values: &[f64], v: &[f64], out: &m
 
 // The columns, then the lengths of what else is lent, as pairs.
 fn check_lent(nrows: usize, ptrs: &[u32], rows: &[u32], values: &[f64], pairs: &[usize]) -> Answer
-    ensures { λ r. ⌜ told r ≡ orElse (checked (columnsOf nrows (now (ptrs .entry)) (now (rows .entry)) (now (values .entry)))) (wrongLength (now (pairs .entry))) ⌝ }
+    ensures { λ r.
+        let m = columnsOf nrows (now (ptrs .entry)) (now (rows .entry)) (now (values .entry)) in
+        ⌜ told r ≡ orElse (checked m) (wrongLength (now (pairs .entry))) ⌝ }
 {
     or_else(
         check_columns(nrows, ptrs, rows, values),
@@ -89,7 +93,9 @@ pub fn jt_vec(
     v: &[f64],
     out: &mut [f64],
 ) -> Answer
-    ensures { λ r. ⌜ record { told = told r; out = now (out .exit) } ≡ jtVec (columnsOf nrows (now (ptrs .entry)) (now (rows .entry)) (now (values .entry))) (now (v .entry)) (now (out .entry)) ⌝ }
+    ensures { λ r.
+        let m = columnsOf nrows (now (ptrs .entry)) (now (rows .entry)) (now (values .entry)) in
+        ⌜ record { told = told r; out = now (out .exit) } ≡ jtVec m (now (v .entry)) (now (out .entry)) ⌝ }
 {
     let lengths = [v.len(), nrows, out.len(), column_count(ptrs)];
     let checked = check_lent(nrows, ptrs, rows, values, &lengths);
@@ -138,7 +144,9 @@ pub fn diag_jt_j(
     values: &[f64],
     out: &mut [f64],
 ) -> Answer
-    ensures { λ r. ⌜ record { told = told r; out = now (out .exit) } ≡ diagJtJ (columnsOf nrows (now (ptrs .entry)) (now (rows .entry)) (now (values .entry))) (now (out .entry)) ⌝ }
+    ensures { λ r.
+        let m = columnsOf nrows (now (ptrs .entry)) (now (rows .entry)) (now (values .entry)) in
+        ⌜ record { told = told r; out = now (out .exit) } ≡ diagJtJ m (now (out .entry)) ⌝ }
 {
     let lengths = [out.len(), column_count(ptrs)];
     let checked = check_lent(nrows, ptrs, rows, values, &lengths);
@@ -161,7 +169,9 @@ pub fn clear(y: &mut [f64])
 // The sweep over all columns, ascending.
 fn sweep_columns(ptrs: &[u32], rows: &[u32], values: &[f64], v: &[f64], y: &mut [f64])
     requires { ⌜ Gathers (columnsOf (length (now y)) (now ptrs) (now rows) (now values)) (length (now v)) ⌝ }
-    ensures { λ _. ⌜ now (y .exit) ≡ sweptOn Plus (now (y .entry)) (allTerms (columnsOf (length (now (y .entry))) (now (ptrs .entry)) (now (rows .entry)) (now (values .entry))) (now (v .entry))) ⌝ }
+    ensures { λ _.
+        let m = columnsOf (length (now (y .entry))) (now (ptrs .entry)) (now (rows .entry)) (now (values .entry)) in
+        ⌜ now (y .exit) ≡ sweptOn Plus (now (y .entry)) (allTerms m (now (v .entry))) ⌝ }
 {
     for j in 0..v.len() {
         sweep_column(Sign::Plus, ptrs, rows, values, v[j], j, y);
@@ -178,7 +188,10 @@ pub fn jt_j_vec_product(
     jv: &mut [f64],
     out: &mut [f64],
 ) -> Answer
-    ensures { λ r. ⌜ record { told = told r; jv = now (jv .exit); out = now (out .exit) } ≡ jtJVecProduct (columnsOf nrows (now (ptrs .entry)) (now (rows .entry)) (now (values .entry))) (now (v .entry)) (now (jv .entry)) (now (out .entry)) ⌝ }
+    ensures { λ r.
+        let m = columnsOf nrows (now (ptrs .entry)) (now (rows .entry)) (now (values .entry)) in
+        ⌜ record { told = told r; jv = now (jv .exit); out = now (out .exit) }
+        ≡ jtJVecProduct m (now (v .entry)) (now (jv .entry)) (now (out .entry)) ⌝ }
 {
     let n = column_count(ptrs);
     let lengths = [v.len(), n, jv.len(), nrows, out.len(), n];

@@ -91,7 +91,9 @@ pub fn sweep_column(
     y: &mut [f64],
 )
     requires { ⌜ HasColumn (columnsOf (length (now y)) (now ptrs) (now rows) (now values)) j ⌝ }
-    ensures { λ _. ⌜ now (y .exit) ≡ sweptOn sign (now (y .entry)) (sweepTerms (columnsOf (length (now (y .entry))) (now (ptrs .entry)) (now (rows .entry)) (now (values .entry))) x j) ⌝ }
+    ensures { λ _.
+        let m = columnsOf (length (now (y .entry))) (now (ptrs .entry)) (now (rows .entry)) (now (values .entry)) in
+        ⌜ now (y .exit) ≡ sweptOn sign (now (y .entry)) (sweepTerms m x j) ⌝ }
 {
     let lo = first_place(ptrs, j);
     let hi = end_place(ptrs, j);
@@ -136,7 +138,9 @@ pub fn gather_column(
     start: f64,
 ) -> f64
     requires { ⌜ HasColumn (columnsOf (length (now y)) (now ptrs) (now rows) (now values)) j ⌝ }
-    ensures { λ r. ⌜ r ≡ sumFrom start (gatherTerms (columnsOf (length (now (y .entry))) (now (ptrs .entry)) (now (rows .entry)) (now (values .entry))) (now (y .entry)) j) ⌝ }
+    ensures { λ r.
+        let m = columnsOf (length (now (y .entry))) (now (ptrs .entry)) (now (rows .entry)) (now (values .entry)) in
+        ⌜ r ≡ sumFrom start (gatherTerms m (now (y .entry)) j) ⌝ }
 {
     let lo = first_place(ptrs, j);
     let hi = end_place(ptrs, j);

@@ -9,7 +9,8 @@ ghost use Rattle.columns.specs.Columns.{columnsOf};
 ghost use Rattle.plan.specs.Plan.{buffers, planned};
 ghost use Rattle.products.specs.Operator.{schurOperator};
 ghost use Rattle.products.specs.Couplings.{combineUpdates};
-ghost use Rattle.edge.specs.Edge.{planExport, operatorExport, updateExport};
+ghost use Rattle.edge.specs.Edge.{Crossed, planExport, operatorExport, updateExport};
+ghost use Rattle.plan.specs.Spans.{spreadOf};
 
 // The structure plan. 0 has the span counts of the kept and of the eliminated side.
 #[no_mangle]
@@ -41,7 +42,19 @@ pub extern "C" fn pivotfern_plan(
     first: &mut u64,
     second: &mut u64,
 ) -> u32
-    ensures { λ n. ⌜ record { told = record { number = n; first = now (first .exit); second = now (second .exit) }; left = buffers (now (map .exit)) (now («kept_cols» .exit)) (now («elims_cols» .exit)) (now («elims_blocks» .exit)) (now (owners .exit)) (now («row_list» .exit)) (now («row_starts» .exit)) (now (visible .exit)) (now («visible_starts» .exit)) (now («kept_starts» .exit)) (now («kept_lo» .exit)) (now («kept_hi» .exit)) (now («kept_local» .exit)) (now («elims_starts» .exit)) (now («elims_lo» .exit)) (now («elims_hi» .exit)) (now («elims_local» .exit)) } ≡ planExport (planned (columnsOf nrows (now (ptrs .entry)) (now (rows .entry)) (now (values .entry))) (now (kept .entry)) (now (elims .entry)) «chunk_len» (buffers (now (map .entry)) (now («kept_cols» .entry)) (now («elims_cols» .entry)) (now («elims_blocks» .entry)) (now (owners .entry)) (now («row_list» .entry)) (now («row_starts» .entry)) (now (visible .entry)) (now («visible_starts» .entry)) (now («kept_starts» .entry)) (now («kept_lo» .entry)) (now («kept_hi» .entry)) (now («kept_local» .entry)) (now («elims_starts» .entry)) (now («elims_lo» .entry)) (now («elims_hi» .entry)) (now («elims_local» .entry)))) ⌝ }
+    ensures { λ n.
+        let m = columnsOf nrows (now (ptrs .entry)) (now (rows .entry)) (now (values .entry)) in
+        let lent = buffers (now (map .entry)) (now («kept_cols» .entry)) (now («elims_cols» .entry)) (now («elims_blocks» .entry))
+        (now (owners .entry)) (now («row_list» .entry)) (now («row_starts» .entry)) (now (visible .entry)) (now («visible_starts» .entry))
+        (now («kept_starts» .entry)) (now («kept_lo» .entry)) (now («kept_hi» .entry)) (now («kept_local» .entry))
+        (now («elims_starts» .entry)) (now («elims_lo» .entry)) (now («elims_hi» .entry)) (now («elims_local» .entry)) in
+        let left = buffers (now (map .exit)) (now («kept_cols» .exit)) (now («elims_cols» .exit)) (now («elims_blocks» .exit)) (now (owners .exit))
+        (now («row_list» .exit)) (now («row_starts» .exit)) (now (visible .exit)) (now («visible_starts» .exit)) (now («kept_starts» .exit))
+        (now («kept_lo» .exit)) (now («kept_hi» .exit)) (now («kept_local» .exit)) (now («elims_starts» .exit)) (now («elims_lo» .exit))
+        (now («elims_hi» .exit)) (now («elims_local» .exit)) in
+        let told : Crossed = record { number = n; first = now (first .exit); second = now (second .exit) } in
+        ⌜ record { told = told; left = left }
+        ≡ planExport (planned m (now (kept .entry)) (now (elims .entry)) «chunk_len» lent) ⌝ }
 {
     let answer = plan(
         nrows,
@@ -101,7 +114,16 @@ pub extern "C" fn pivotfern_operator(
     first: &mut u64,
     second: &mut u64,
 ) -> u32
-    ensures { λ n. ⌜ record { told = record { number = n; first = now (first .exit); second = now (second .exit) }; left = (now (map .exit), record { rows = now (y .exit); t = now (t .exit); u = now (u .exit); out = now (out .exit) }) } ≡ operatorExport (schurOperator (columnsOf nrows (now (ptrs .entry)) (now (rows .entry)) (now (values .entry))) (now (kept .entry)) (now (elims .entry)) «chunk_len» (now (map .entry)) (record { v = now (v .entry); inverses = now (inverses .entry); d = now (d .entry); kept = record { starts = now («kept_starts» .entry); lo = now («kept_lo» .entry); hi = now («kept_hi» .entry); local = now («kept_local» .entry) }; elims = record { starts = now («elims_starts» .entry); lo = now («elims_lo» .entry); hi = now («elims_hi» .entry); local = now («elims_local» .entry) } }) (record { rows = now (y .entry); t = now (t .entry); u = now (u .entry); out = now (out .entry) })) ⌝ }
+    ensures { λ n.
+        let m = columnsOf nrows (now (ptrs .entry)) (now (rows .entry)) (now (values .entry)) in
+        let keptLent = spreadOf (now («kept_starts» .entry)) (now («kept_lo» .entry)) (now («kept_hi» .entry)) (now («kept_local» .entry)) in
+        let elimsLent = spreadOf (now («elims_starts» .entry)) (now («elims_lo» .entry)) (now («elims_hi» .entry)) (now («elims_local» .entry)) in
+        let told : Crossed = record { number = n; first = now (first .exit); second = now (second .exit) } in
+        ⌜ record { told = told; left = (now (map .exit), record { rows = now (y .exit); t = now (t .exit); u = now (u .exit); out = now (out .exit) }) }
+        ≡ operatorExport
+        (schurOperator m (now (kept .entry)) (now (elims .entry)) «chunk_len» (now (map .entry))
+        (record { v = now (v .entry); inverses = now (inverses .entry); d = now (d .entry); kept = keptLent; elims = elimsLent })
+        (record { rows = now (y .entry); t = now (t .entry); u = now (u .entry); out = now (out .entry) })) ⌝ }
 {
     let answer = apply_schur_operator(
         nrows,
@@ -147,7 +169,13 @@ pub extern "C" fn pivotfern_update(
     first: &mut u64,
     second: &mut u64,
 ) -> u32
-    ensures { λ n. ⌜ record { told = record { number = n; first = now (first .exit); second = now (second .exit) }; left = (now (map .exit), now (out .exit)) } ≡ updateExport (combineUpdates (columnsOf nrows (now (ptrs .entry)) (now (rows .entry)) (now (values .entry))) (now (kept .entry)) (now (elims .entry)) (now (map .entry)) (now («kept_update» .entry)) (now («elims_update» .entry)) (now (out .entry))) ⌝ }
+    ensures { λ n.
+        let m = columnsOf nrows (now (ptrs .entry)) (now (rows .entry)) (now (values .entry)) in
+        let told : Crossed = record { number = n; first = now (first .exit); second = now (second .exit) } in
+        ⌜ record { told = told; left = (now (map .exit), now (out .exit)) }
+        ≡ updateExport
+        (combineUpdates m (now (kept .entry)) (now (elims .entry)) (now (map .entry)) (now («kept_update» .entry)) (now («elims_update» .entry))
+        (now (out .entry))) ⌝ }
 {
     let answer = combine_updates(
         nrows,

@@ -22,6 +22,7 @@ ghost use Rattle.blocks.specs.Access.{blockPlace};
 ghost use Rattle.blocks.specs.BlockValues.{gatherFromJacobian, dampValues};
 ghost use Rattle.blocks.specs.Damping.{diagonalTerm};
 ghost use Rattle.edge_compare.specs.Compare.{termExport, mapExport, valuesExport, looked, numberLooked, withinLooked, slotLooked, placeLooked};
+ghost use Rattle.edge.specs.Edge.{Crossed};
 
 // Checks columns and blocks, and fills the map.
 #[no_mangle]
@@ -36,7 +37,10 @@ pub extern "C" fn pivotfern_check_blocks(
     first: &mut u64,
     second: &mut u64,
 ) -> u32
-    ensures { λ n. ⌜ record { told = record { number = n; first = now (first .exit); second = now (second .exit) }; left = now (map .exit) } ≡ mapExport (checkBlocks (columnsOf nrows (now (ptrs .entry)) (now (rows .entry)) (now (values .entry))) (now (kept .entry)) (now (elims .entry)) (now (map .entry))) ⌝ }
+    ensures { λ n.
+        let m = columnsOf nrows (now (ptrs .entry)) (now (rows .entry)) (now (values .entry)) in
+        let told : Crossed = record { number = n; first = now (first .exit); second = now (second .exit) } in
+        ⌜ record { told = told; left = now (map .exit) } ≡ mapExport (checkBlocks m (now (kept .entry)) (now (elims .entry)) (now (map .entry))) ⌝ }
 {
     let answer = check_blocks(nrows, ptrs, rows, values, kept, elims, map);
     cross_answer(answer, first, second)
@@ -115,7 +119,11 @@ pub extern "C" fn pivotfern_gather_from_jacobian(
     first: &mut u64,
     second: &mut u64,
 ) -> u32
-    ensures { λ n. ⌜ record { told = record { number = n; first = now (first .exit); second = now (second .exit) }; left = (now (map .exit), now (out .exit)) } ≡ valuesExport (gatherFromJacobian (columnsOf nrows (now (ptrs .entry)) (now (rows .entry)) (now (values .entry))) (now (kept .entry)) (now (elims .entry)) (now (map .entry)) (now (out .entry))) ⌝ }
+    ensures { λ n.
+        let m = columnsOf nrows (now (ptrs .entry)) (now (rows .entry)) (now (values .entry)) in
+        let told : Crossed = record { number = n; first = now (first .exit); second = now (second .exit) } in
+        ⌜ record { told = told; left = (now (map .exit), now (out .exit)) }
+        ≡ valuesExport (gatherFromJacobian m (now (kept .entry)) (now (elims .entry)) (now (map .entry)) (now (out .entry))) ⌝ }
 {
     let answer = gather_from_jacobian(nrows, ptrs, rows, values, kept, elims, map, out);
     cross_answer(answer, first, second)
@@ -138,7 +146,12 @@ pub extern "C" fn pivotfern_damp(
     first: &mut u64,
     second: &mut u64,
 ) -> u32
-    ensures { λ n. ⌜ record { told = record { number = n; first = now (first .exit); second = now (second .exit) }; left = (now (map .exit), now (out .exit)) } ≡ valuesExport (dampValues (columnsOf nrows (now (ptrs .entry)) (now (rows .entry)) (now (values .entry))) (now (kept .entry)) (now (elims .entry)) (now (map .entry)) (record { lambda = lambda; min = min; max = max }) (now (out .entry))) ⌝ }
+    ensures { λ n.
+        let m = columnsOf nrows (now (ptrs .entry)) (now (rows .entry)) (now (values .entry)) in
+        let told : Crossed = record { number = n; first = now (first .exit); second = now (second .exit) } in
+        ⌜ record { told = told; left = (now (map .exit), now (out .exit)) }
+        ≡ valuesExport
+        (dampValues m (now (kept .entry)) (now (elims .entry)) (now (map .entry)) (record { lambda = lambda; min = min; max = max }) (now (out .entry))) ⌝ }
 {
     let damping = Damping {
         lambda: lambda,
@@ -160,7 +173,10 @@ pub extern "C" fn pivotfern_diagonal_term(
     first: &mut u64,
     second: &mut u64,
 ) -> u32
-    ensures { λ n. ⌜ record { told = record { number = n; first = now (first .exit); second = now (second .exit) }; left = now (result .exit) } ≡ termExport (diagonalTerm (record { lambda = lambda; min = min; max = max }) value) (now (result .entry)) ⌝ }
+    ensures { λ n.
+        let told : Crossed = record { number = n; first = now (first .exit); second = now (second .exit) } in
+        ⌜ record { told = told; left = now (result .exit) }
+        ≡ termExport (diagonalTerm (record { lambda = lambda; min = min; max = max }) value) (now (result .entry)) ⌝ }
 {
     let damping = Damping {
         lambda: lambda,

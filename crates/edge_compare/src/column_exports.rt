@@ -9,7 +9,7 @@ use edge::cross::cross_answer;
 ghost use mathlib.Core.Path.{_≡_};
 ghost use Rattle.columns.specs.Columns.{columnsOf, checked};
 ghost use Rattle.columns.specs.JacobianOps.{columnDot, jtVec, diagJtJ, jtJVecProduct};
-ghost use Rattle.edge.specs.Edge.{crossed};
+ghost use Rattle.edge.specs.Edge.{Crossed, crossed};
 ghost use Rattle.edge_compare.specs.Compare.{dotExport, leftExport, rowsExport};
 
 // Whether the columns keep the rules.
@@ -22,7 +22,9 @@ pub extern "C" fn pivotfern_check_columns(
     first: &mut u64,
     second: &mut u64,
 ) -> u32
-    ensures { λ n. ⌜ record { number = n; first = now (first .exit); second = now (second .exit) } ≡ crossed (checked (columnsOf nrows (now (ptrs .entry)) (now (rows .entry)) (now (values .entry)))) ⌝ }
+    ensures { λ n.
+        let m = columnsOf nrows (now (ptrs .entry)) (now (rows .entry)) (now (values .entry)) in
+        ⌜ record { number = n; first = now (first .exit); second = now (second .exit) } ≡ crossed (checked m) ⌝ }
 {
     let answer = check_columns(nrows, ptrs, rows, values);
     cross_answer(answer, first, second)
@@ -41,7 +43,10 @@ pub extern "C" fn pivotfern_column_dot(
     first: &mut u64,
     second: &mut u64,
 ) -> u32
-    ensures { λ n. ⌜ record { told = record { number = n; first = now (first .exit); second = now (second .exit) }; left = now (result .exit) } ≡ dotExport (columnDot (columnsOf nrows (now (ptrs .entry)) (now (rows .entry)) (now (values .entry))) a b) (now (result .entry)) ⌝ }
+    ensures { λ n.
+        let m = columnsOf nrows (now (ptrs .entry)) (now (rows .entry)) (now (values .entry)) in
+        let told : Crossed = record { number = n; first = now (first .exit); second = now (second .exit) } in
+        ⌜ record { told = told; left = now (result .exit) } ≡ dotExport (columnDot m a b) (now (result .entry)) ⌝ }
 {
     cross_dot(
         column_dot(nrows, ptrs, rows, values, a, b),
@@ -63,7 +68,10 @@ pub extern "C" fn pivotfern_jt_vec(
     first: &mut u64,
     second: &mut u64,
 ) -> u32
-    ensures { λ n. ⌜ record { told = record { number = n; first = now (first .exit); second = now (second .exit) }; left = now (out .exit) } ≡ leftExport (jtVec (columnsOf nrows (now (ptrs .entry)) (now (rows .entry)) (now (values .entry))) (now (v .entry)) (now (out .entry))) ⌝ }
+    ensures { λ n.
+        let m = columnsOf nrows (now (ptrs .entry)) (now (rows .entry)) (now (values .entry)) in
+        let told : Crossed = record { number = n; first = now (first .exit); second = now (second .exit) } in
+        ⌜ record { told = told; left = now (out .exit) } ≡ leftExport (jtVec m (now (v .entry)) (now (out .entry))) ⌝ }
 {
     let answer = jt_vec(nrows, ptrs, rows, values, v, out);
     cross_answer(answer, first, second)
@@ -80,7 +88,10 @@ pub extern "C" fn pivotfern_diag_jt_j(
     first: &mut u64,
     second: &mut u64,
 ) -> u32
-    ensures { λ n. ⌜ record { told = record { number = n; first = now (first .exit); second = now (second .exit) }; left = now (out .exit) } ≡ leftExport (diagJtJ (columnsOf nrows (now (ptrs .entry)) (now (rows .entry)) (now (values .entry))) (now (out .entry))) ⌝ }
+    ensures { λ n.
+        let m = columnsOf nrows (now (ptrs .entry)) (now (rows .entry)) (now (values .entry)) in
+        let told : Crossed = record { number = n; first = now (first .exit); second = now (second .exit) } in
+        ⌜ record { told = told; left = now (out .exit) } ≡ leftExport (diagJtJ m (now (out .entry))) ⌝ }
 {
     let answer = diag_jt_j(nrows, ptrs, rows, values, out);
     cross_answer(answer, first, second)
@@ -99,7 +110,11 @@ pub extern "C" fn pivotfern_jt_j_vec_product(
     first: &mut u64,
     second: &mut u64,
 ) -> u32
-    ensures { λ n. ⌜ record { told = record { number = n; first = now (first .exit); second = now (second .exit) }; left = (now (y .exit), now (out .exit)) } ≡ rowsExport (jtJVecProduct (columnsOf nrows (now (ptrs .entry)) (now (rows .entry)) (now (values .entry))) (now (v .entry)) (now (y .entry)) (now (out .entry))) ⌝ }
+    ensures { λ n.
+        let m = columnsOf nrows (now (ptrs .entry)) (now (rows .entry)) (now (values .entry)) in
+        let told : Crossed = record { number = n; first = now (first .exit); second = now (second .exit) } in
+        ⌜ record { told = told; left = (now (y .exit), now (out .exit)) }
+        ≡ rowsExport (jtJVecProduct m (now (v .entry)) (now (y .entry)) (now (out .entry))) ⌝ }
 {
     let answer = jt_j_vec_product(nrows, ptrs, rows, values, v, y, out);
     cross_answer(answer, first, second)

@@ -14,10 +14,13 @@ ghost use Rattle.columns.specs.JacobianOps.{dotted};
 ghost use Rattle.blocks.specs.Damping.{termed};
 ghost use Rattle.products.specs.Side.{eliminated};
 ghost use Rattle.edge_compare.specs.Compare.{dotExport, termExport, byNumber, looked, numberLooked, withinLooked, slotLooked, placeLooked};
+ghost use Rattle.edge.specs.Edge.{Crossed};
 
 // A sum, or a refusal that leaves `result` as it was.
 pub(crate) fn cross_dot(dot: Dot, result: &mut f64, first: &mut u64, second: &mut u64) -> u32
-    ensures { λ n. ⌜ record { told = record { number = n; first = now (first .exit); second = now (second .exit) }; left = now (result .exit) } ≡ dotExport (dotted dot) (now (result .entry)) ⌝ }
+    ensures { λ n.
+        let told : Crossed = record { number = n; first = now (first .exit); second = now (second .exit) } in
+        ⌜ record { told = told; left = now (result .exit) } ≡ dotExport (dotted dot) (now (result .entry)) ⌝ }
 {
     match dot {
         Dot::Sum(x) => {
@@ -35,7 +38,9 @@ pub(crate) fn cross_term(
     first: &mut u64,
     second: &mut u64,
 ) -> u32
-    ensures { λ n. ⌜ record { told = record { number = n; first = now (first .exit); second = now (second .exit) }; left = now (result .exit) } ≡ termExport (termed term) (now (result .entry)) ⌝ }
+    ensures { λ n.
+        let told : Crossed = record { number = n; first = now (first .exit); second = now (second .exit) } in
+        ⌜ record { told = told; left = now (result .exit) } ≡ termExport (termed term) (now (result .entry)) ⌝ }
 {
     match term {
         DiagonalTerm::Term(x) => {

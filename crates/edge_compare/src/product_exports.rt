@@ -12,6 +12,8 @@ ghost use Rattle.columns.specs.Columns.{columnsOf};
 ghost use Rattle.products.specs.Couplings.{applyEliminatedInverse, coupling};
 ghost use Rattle.products.specs.Orders.{stepOf, sweepOf};
 ghost use Rattle.edge_compare.specs.Compare.{madeExport, coupledExport, sweptExport, byNumber};
+ghost use Rattle.plan.specs.Spans.{spreadOf};
+ghost use Rattle.edge.specs.Edge.{Crossed};
 
 // The block inverses times a vector.
 #[no_mangle]
@@ -29,7 +31,13 @@ pub extern "C" fn pivotfern_apply_eliminated_inverse(
     first: &mut u64,
     second: &mut u64,
 ) -> u32
-    ensures { λ n. ⌜ record { told = record { number = n; first = now (first .exit); second = now (second .exit) }; left = (now (map .exit), now (out .exit)) } ≡ madeExport (applyEliminatedInverse (columnsOf nrows (now (ptrs .entry)) (now (rows .entry)) (now (values .entry))) (now (kept .entry)) (now (elims .entry)) (now (map .entry)) (now (b .entry)) (now (inverses .entry)) (now (out .entry))) ⌝ }
+    ensures { λ n.
+        let m = columnsOf nrows (now (ptrs .entry)) (now (rows .entry)) (now (values .entry)) in
+        let told : Crossed = record { number = n; first = now (first .exit); second = now (second .exit) } in
+        ⌜ record { told = told; left = (now (map .exit), now (out .exit)) }
+        ≡ madeExport
+        (applyEliminatedInverse m (now (kept .entry)) (now (elims .entry)) (now (map .entry)) (now (b .entry)) (now (inverses .entry))
+        (now (out .entry))) ⌝ }
 {
     let answer = apply_eliminated_inverse(
         nrows,
@@ -62,7 +70,12 @@ pub extern "C" fn pivotfern_coupling_times(
     first: &mut u64,
     second: &mut u64,
 ) -> u32
-    ensures { λ n. ⌜ record { told = record { number = n; first = now (first .exit); second = now (second .exit) }; left = (now (map .exit), now (y .exit), now (out .exit)) } ≡ coupledExport (coupling true (columnsOf nrows (now (ptrs .entry)) (now (rows .entry)) (now (values .entry))) (now (kept .entry)) (now (elims .entry)) (now (map .entry)) (now (u .entry)) (now (y .entry)) (now (out .entry))) ⌝ }
+    ensures { λ n.
+        let m = columnsOf nrows (now (ptrs .entry)) (now (rows .entry)) (now (values .entry)) in
+        let told : Crossed = record { number = n; first = now (first .exit); second = now (second .exit) } in
+        ⌜ record { told = told; left = (now (map .exit), now (y .exit), now (out .exit)) }
+        ≡ coupledExport
+        (coupling true m (now (kept .entry)) (now (elims .entry)) (now (map .entry)) (now (u .entry)) (now (y .entry)) (now (out .entry))) ⌝ }
 {
     let answer = coupling_times(nrows, ptrs, rows, values, kept, elims, map, u, y, out);
     cross_answer(answer, first, second)
@@ -84,7 +97,12 @@ pub extern "C" fn pivotfern_coupling_transpose_times(
     first: &mut u64,
     second: &mut u64,
 ) -> u32
-    ensures { λ n. ⌜ record { told = record { number = n; first = now (first .exit); second = now (second .exit) }; left = (now (map .exit), now (y .exit), now (out .exit)) } ≡ coupledExport (coupling false (columnsOf nrows (now (ptrs .entry)) (now (rows .entry)) (now (values .entry))) (now (kept .entry)) (now (elims .entry)) (now (map .entry)) (now (v .entry)) (now (y .entry)) (now (out .entry))) ⌝ }
+    ensures { λ n.
+        let m = columnsOf nrows (now (ptrs .entry)) (now (rows .entry)) (now (values .entry)) in
+        let told : Crossed = record { number = n; first = now (first .exit); second = now (second .exit) } in
+        ⌜ record { told = told; left = (now (map .exit), now (y .exit), now (out .exit)) }
+        ≡ coupledExport
+        (coupling false m (now (kept .entry)) (now (elims .entry)) (now (map .entry)) (now (v .entry)) (now (y .entry)) (now (out .entry))) ⌝ }
 {
     let answer = coupling_transpose_times(nrows, ptrs, rows, values, kept, elims, map, v, y, out);
     cross_answer(answer, first, second)
@@ -113,7 +131,14 @@ pub extern "C" fn pivotfern_step(
     first: &mut u64,
     second: &mut u64,
 ) -> u32
-    ensures { λ n. ⌜ record { told = record { number = n; first = now (first .exit); second = now (second .exit) }; left = (now (map .exit), now (y .exit), now (progress .exit)) } ≡ sweptExport (stepOf (byNumber side) (columnsOf nrows (now (ptrs .entry)) (now (rows .entry)) (now (values .entry))) (now (kept .entry)) (now (elims .entry)) «chunk_len» (now (map .entry)) (now (v .entry)) (record { starts = now (starts .entry); lo = now (lo .entry); hi = now (hi .entry); local = now (local .entry) }) (now (y .entry)) (now (progress .entry)) chunk) ⌝ }
+    ensures { λ n.
+        let m = columnsOf nrows (now (ptrs .entry)) (now (rows .entry)) (now (values .entry)) in
+        let lent = spreadOf (now (starts .entry)) (now (lo .entry)) (now (hi .entry)) (now (local .entry)) in
+        let told : Crossed = record { number = n; first = now (first .exit); second = now (second .exit) } in
+        ⌜ record { told = told; left = (now (map .exit), now (y .exit), now (progress .exit)) }
+        ≡ sweptExport
+        (stepOf (byNumber side) m (now (kept .entry)) (now (elims .entry)) «chunk_len» (now (map .entry)) (now (v .entry)) lent (now (y .entry))
+        (now (progress .entry)) chunk) ⌝ }
 {
     let answer = step(
         side_of(side),
@@ -160,7 +185,14 @@ pub extern "C" fn pivotfern_sweep(
     first: &mut u64,
     second: &mut u64,
 ) -> u32
-    ensures { λ n. ⌜ record { told = record { number = n; first = now (first .exit); second = now (second .exit) }; left = (now (map .exit), now (y .exit), now (progress .exit)) } ≡ sweptExport (sweepOf (byNumber side) (columnsOf nrows (now (ptrs .entry)) (now (rows .entry)) (now (values .entry))) (now (kept .entry)) (now (elims .entry)) «chunk_len» (now (map .entry)) (now (v .entry)) (record { starts = now (starts .entry); lo = now (lo .entry); hi = now (hi .entry); local = now (local .entry) }) (now (y .entry)) (now (progress .entry)) (now (order .entry))) ⌝ }
+    ensures { λ n.
+        let m = columnsOf nrows (now (ptrs .entry)) (now (rows .entry)) (now (values .entry)) in
+        let lent = spreadOf (now (starts .entry)) (now (lo .entry)) (now (hi .entry)) (now (local .entry)) in
+        let told : Crossed = record { number = n; first = now (first .exit); second = now (second .exit) } in
+        ⌜ record { told = told; left = (now (map .exit), now (y .exit), now (progress .exit)) }
+        ≡ sweptExport
+        (sweepOf (byNumber side) m (now (kept .entry)) (now (elims .entry)) «chunk_len» (now (map .entry)) (now (v .entry)) lent (now (y .entry))
+        (now (progress .entry)) (now (order .entry))) ⌝ }
 {
     let answer = sweep(
         side_of(side),

@@ -11,7 +11,9 @@ abbrev pub planOutcome : HallPlan → Outcome
 planOutcome p = record {
   told = toldPlan (p .answer);
   left =
-      buffers (p .map) (p .«kept_cols») (p .«elims_cols») (p .«elims_blocks») (p .owners) (p .«row_list») (p .«row_starts») (p .visible) (p .«visible_starts») (p .«kept_starts») (p .«kept_lo») (p .«kept_hi») (p .«kept_local») (p .«elims_starts») (p .«elims_lo») (p .«elims_hi») (p .«elims_local»);
+      buffers (p .map) (p .«kept_cols») (p .«elims_cols») (p .«elims_blocks») (p .owners) (p .«row_list») (p .«row_starts») (p .visible)
+      (p .«visible_starts») (p .«kept_starts») (p .«kept_lo») (p .«kept_hi») (p .«kept_local»)
+      (p .«elims_starts») (p .«elims_lo») (p .«elims_hi») (p .«elims_local»);
 }
 
 abbrev pub operatorOutcome : HallWork → Operated

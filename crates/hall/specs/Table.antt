@@ -12,7 +12,31 @@ use Rattle.blocks.specs.Claims.{mark}
 use Rattle.plan.specs.Plan.{Buffers, buffers, lent, planned}
 use Rattle.products.specs.Operator.{keptRows, schurOperator}
 use Rattle.products.specs.Couplings.{coupling}
-use Rattle.hall.specs.Hall.{f, half, hall, moved, repeated, kept, elims, owners, rowLists, visible, keptLists, elimsLists, v, firstRows, t, u, lastRows, operands, unusedMap, unusedRows, unusedBuffers, unusedWork, sweptAlong}
+use Rattle.hall.specs.Hall.{
+  f,
+  half,
+  hall,
+  moved,
+  repeated,
+  kept,
+  elims,
+  owners,
+  rowLists,
+  visible,
+  keptLists,
+  elimsLists,
+  v,
+  firstRows,
+  t,
+  u,
+  lastRows,
+  operands,
+  unusedMap,
+  unusedRows,
+  unusedBuffers,
+  unusedWork,
+  sweptAlong,
+}
 
 -- what buffer 0 holds after a success, and after a refusal 7 to 14
 abbrev pub filled : List ℕ

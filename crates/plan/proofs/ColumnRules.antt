@@ -13,7 +13,7 @@ use Rattle.ground.proofs.ListLaws.{gather-at, written-front, list-back}
 use Rattle.blocks.specs.Sides.{blockCount, firstOf, dofOf, cols, offsetOf, sideDof}
 use Rattle.blocks.proofs.SideLaws.{cols-length, cols-at, offset-next}
 use Rattle.plan.specs.Plan.{columnBlocks}
-use Rattle.plan.specs.ColumnLists.{written, Counted, columnsListed, blocksListed, ColumnsFit, BlockFits}
+use Rattle.plan.specs.ColumnLists.{written, Counted, columnsListed, blocksListed, ColumnsFit, BlockListed}
 
 -- ---- the block of each column
 
@@ -40,7 +40,7 @@ number-at side b i h l =
 
 -- ---- one block: first, dof and number are what the code read
 
-module _ (side : List ℕ) (b at n : ℕ) (f : BlockFits side b at n) (dof : ℕ) (d : dof ≡ dofOf side b) where
+module _ (side : List ℕ) (b at n : ℕ) (f : BlockListed side b at n) (dof : ℕ) (d : dof ≡ dofOf side b) where
   ends : at + dof ≤ sideDof side
   ends = rw (d, f .starts) (offset-next side b (blockCount side) (f .there))
 
@@ -71,7 +71,7 @@ block-written xs side l z b at dof d e = rw (← d) e
 
 -- ---- all blocks
 
-pub block-fits : (side : List ℕ) (n k b at count : ℕ) → ColumnsFit side n → k ≡ n → at ≡ offsetOf side b → count ≡ blockCount side → b < count → BlockFits side b at k
+pub block-fits : (side : List ℕ) (n k b at count : ℕ) → ColumnsFit side n → k ≡ n → at ≡ offsetOf side b → count ≡ blockCount side → b < count → BlockListed side b at k
 block-fits side n k b at count f e s c h = rw e (record { fit = f; there = rw c at h; starts = s })
 
 pub first-place : (side : List ℕ) → 0 ≡ offsetOf side 0

@@ -32,7 +32,7 @@ pub record ColumnsFit (side : List ℕ) (n : ℕ) : Type 0 where
   pub room : sideDof side ≤ n
 
 -- so it is, and block b's columns begin at place `at`
-pub record BlockFits (side : List ℕ) (b at n : ℕ) : Type 0 where
+pub record BlockListed (side : List ℕ) (b at n : ℕ) : Type 0 where
   pub fit : ColumnsFit side n
   pub there : b < blockCount side
   pub starts : at ≡ offsetOf side b

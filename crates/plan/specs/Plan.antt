@@ -29,22 +29,28 @@ pub record Buffers : Type 0 where
   pub kept : Spread
   pub elims : Spread
 
-abbrev pub buffers : List ℕ → List ℕ → List ℕ → List ℕ → List ℕ → List ℕ → List ℕ → List ℕ → List ℕ → List ℕ → List ℕ → List ℕ → List ℕ → List ℕ → List ℕ → List ℕ → List ℕ → Buffers
-buffers map keptCols elimsCols elimsBlocks owners rowList rowStarts visible visibleStarts keptStarts keptLo keptHi keptLocal elimsStarts elimsLo elimsHi elimsLocal = record {
-  map = map;
-  keptCols = keptCols;
-  elimsCols = elimsCols;
-  elimsBlocks = elimsBlocks;
-  owners = owners;
-  rowLists = record { list = rowList; starts = rowStarts };
-  visible = record { list = visible; starts = visibleStarts };
-  kept = record { starts = keptStarts; lo = keptLo; hi = keptHi; local = keptLocal };
-  elims = record { starts = elimsStarts; lo = elimsLo; hi = elimsHi; local = elimsLocal };
-}
+abbrev pub buffers : List ℕ → List ℕ → List ℕ → List ℕ → List ℕ → List ℕ → List ℕ → List ℕ → List ℕ
+    → List ℕ → List ℕ → List ℕ → List ℕ → List ℕ → List ℕ → List ℕ → List ℕ → Buffers
+buffers
+    map keptCols elimsCols elimsBlocks owners rowList rowStarts visible visibleStarts
+    keptStarts keptLo keptHi keptLocal elimsStarts elimsLo elimsHi elimsLocal = record {
+      map = map;
+      keptCols = keptCols;
+      elimsCols = elimsCols;
+      elimsBlocks = elimsBlocks;
+      owners = owners;
+      rowLists = record { list = rowList; starts = rowStarts };
+      visible = record { list = visible; starts = visibleStarts };
+      kept = record { starts = keptStarts; lo = keptLo; hi = keptHi; local = keptLocal };
+      elims = record { starts = elimsStarts; lo = elimsLo; hi = elimsHi; local = elimsLocal };
+    }
 
 -- each buffer's length and its need, for n columns, that many rows, entries, kept and eliminated blocks, and chunks
-abbrev pub roomList : ℕ → ℕ → ℕ → ℕ → ℕ → ℕ → ℕ → ℕ → ℕ → ℕ → ℕ → ℕ → ℕ → ℕ → ℕ → ℕ → ℕ → ℕ → ℕ → ℕ → ℕ → ℕ → ℕ → List ℕ
-roomList n nrows entries kept elims chunks map keptCols elimsCols elimsBlocks owners rowList rowStarts visible visibleStarts keptStarts keptLo keptHi keptLocal elimsStarts elimsLo elimsHi elimsLocal =
+abbrev pub roomList : ℕ → ℕ → ℕ → ℕ → ℕ → ℕ
+    → ℕ → ℕ → ℕ → ℕ → ℕ → ℕ → ℕ → ℕ → ℕ → ℕ → ℕ → ℕ → ℕ → ℕ → ℕ → ℕ → ℕ → List ℕ
+roomList
+    n nrows entries kept elims chunks map keptCols elimsCols elimsBlocks owners rowList rowStarts visible visibleStarts
+    keptStarts keptLo keptHi keptLocal elimsStarts elimsLo elimsHi elimsLocal =
     map ∷ n
     ∷ keptCols ∷ n
     ∷ elimsCols ∷ n

@@ -67,6 +67,9 @@ pub record Spread : Type 0 where
   pub hi : List ℕ
   pub local : List ℕ
 
+abbrev pub spreadOf : List ℕ → List ℕ → List ℕ → List ℕ → Spread
+spreadOf starts lo hi local = record { starts = starts; lo = lo; hi = hi; local = local }
+
 -- a number of each of some spans, and past them what the list held
 abbrev pub laid : (Span → ℕ) → List Span → List ℕ → List ℕ
 laid v ss l = map v ss ++ drop (length ss) l

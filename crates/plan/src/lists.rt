@@ -5,11 +5,11 @@ ghost use Prim.Native.Nat.{_+_};
 ghost use lib.ListN.{length};
 ghost use Rattle.blocks.specs.Sides.{cols, dofOf};
 ghost use Rattle.plan.specs.Plan.{columnBlocks};
-ghost use Rattle.plan.specs.ColumnLists.{written, columnsListed, blocksListed, BlockFits, ColumnsFit};
+ghost use Rattle.plan.specs.ColumnLists.{written, columnsListed, blocksListed, BlockListed, ColumnsFit};
 
 // Block b's columns, from place `at` on.
 fn list_block_columns(side: &[u32], b: usize, at: usize, list: &mut [u32])
-    requires { ⌜ BlockFits (now side) b at (length (now list)) ⌝ }
+    requires { ⌜ BlockListed (now side) b at (length (now list)) ⌝ }
     ensures { λ _. ⌜ now (list .exit) ≡ written (cols (now (side .entry))) at (at + dofOf (now (side .entry)) b) (now (list .entry)) ⌝ }
 {
     let first = side[b + b];
@@ -35,7 +35,7 @@ pub(crate) fn list_columns(side: &[u32], list: &mut [u32]) -> usize
 
 // Block b's number, for each of its columns, from place `at` on.
 fn list_block_number(side: &[u32], b: usize, at: usize, list: &mut [u32])
-    requires { ⌜ BlockFits (now side) b at (length (now list)) ⌝ }
+    requires { ⌜ BlockListed (now side) b at (length (now list)) ⌝ }
     ensures { λ _. ⌜ now (list .exit) ≡ written (columnBlocks (now (side .entry))) at (at + dofOf (now (side .entry)) b) (now (list .entry)) ⌝ }
 {
     let dof = wide(side[b + b + 1]);

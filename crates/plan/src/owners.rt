@@ -39,7 +39,8 @@ fn claim_entry(rows: &[u32], b: u32, p: usize, owners: &mut [u32]) -> Answer
 // Those at places lo up to hi claim theirs.
 fn claim_entries(rows: &[u32], b: u32, lo: usize, hi: usize, owners: &mut [u32]) -> Answer
     requires { ⌜ RowsIn (now rows) (length (now owners)) lo hi ⌝ }
-    ensures { λ r. ⌜ record { told = told r; owners = now (owners .exit) } ≡ claimed (now (owners .entry)) (gather (entryAt (now (rows .entry)) b) lo hi) ⌝ }
+    ensures { λ r.
+        ⌜ record { told = told r; owners = now (owners .exit) } ≡ claimed (now (owners .entry)) (gather (entryAt (now (rows .entry)) b) lo hi) ⌝ }
 {
     for p in lo..hi {
         let t = claim_entry(rows, b, p, owners);
@@ -53,7 +54,9 @@ fn claim_entries(rows: &[u32], b: u32, lo: usize, hi: usize, owners: &mut [u32])
 // Column j claims its rows for block b.
 fn claim_column(ptrs: &[u32], rows: &[u32], b: u32, j: usize, owners: &mut [u32]) -> Answer
     requires { ⌜ ColumnIn (now ptrs) (now rows) (length (now owners)) j ⌝ }
-    ensures { λ r. ⌜ record { told = told r; owners = now (owners .exit) } ≡ claimed (now (owners .entry)) (columnEntries (now (ptrs .entry)) (now (rows .entry)) b j) ⌝ }
+    ensures { λ r.
+        ⌜ record { told = told r; owners = now (owners .exit) }
+        ≡ claimed (now (owners .entry)) (columnEntries (now (ptrs .entry)) (now (rows .entry)) b j) ⌝ }
 {
     let lo = first_place(ptrs, j);
     let hi = end_place(ptrs, j);
@@ -63,7 +66,9 @@ fn claim_column(ptrs: &[u32], rows: &[u32], b: u32, j: usize, owners: &mut [u32]
 // Block b's columns claim theirs.
 fn claim_block(ptrs: &[u32], rows: &[u32], elims: &[u32], b: usize, owners: &mut [u32]) -> Answer
     requires { ⌜ BlockIn (now ptrs) (now rows) (now elims) (length (now owners)) b ⌝ }
-    ensures { λ r. ⌜ record { told = told r; owners = now (owners .exit) } ≡ claimed (now (owners .entry)) (blockEntries (now (ptrs .entry)) (now (rows .entry)) (now (elims .entry)) b) ⌝ }
+    ensures { λ r.
+        ⌜ record { told = told r; owners = now (owners .exit) }
+        ≡ claimed (now (owners .entry)) (blockEntries (now (ptrs .entry)) (now (rows .entry)) (now (elims .entry)) b) ⌝ }
 {
     let first = wide(elims[b + b]);
     let dof = wide(elims[b + b + 1]);
@@ -80,7 +85,10 @@ fn claim_block(ptrs: &[u32], rows: &[u32], elims: &[u32], b: usize, owners: &mut
 // The eliminated blocks in their order.
 fn claim_blocks(ptrs: &[u32], rows: &[u32], elims: &[u32], owners: &mut [u32]) -> Answer
     requires { ⌜ SideIn (now ptrs) (now rows) (now elims) (length (now owners)) ⌝ }
-    ensures { λ r. ⌜ record { told = told r; owners = now (owners .exit) } ≡ claimed (now (owners .entry)) (gather (blockEntries (now (ptrs .entry)) (now (rows .entry)) (now (elims .entry))) 0 (blockCount (now (elims .entry)))) ⌝ }
+    ensures { λ r.
+        ⌜ record { told = told r; owners = now (owners .exit) }
+        ≡ claimed (now (owners .entry))
+        (gather (blockEntries (now (ptrs .entry)) (now (rows .entry)) (now (elims .entry))) 0 (blockCount (now (elims .entry)))) ⌝ }
 {
     let count = elims.len() / 2;
     for b in 0..count {
@@ -101,7 +109,9 @@ pub(crate) fn row_owners(
     owners: &mut [u32],
 ) -> Answer
     requires { ⌜ OwnersIn (patternOf nrows (now ptrs) (now rows)) (now elims) (length (now owners)) ⌝ }
-    ensures { λ r. ⌜ record { told = told r; owners = now (owners .exit) } ≡ ownersOf (patternOf nrows (now (ptrs .entry)) (now (rows .entry))) (now (elims .entry)) (now (owners .entry)) ⌝ }
+    ensures { λ r.
+        let m = patternOf nrows (now (ptrs .entry)) (now (rows .entry)) in
+        ⌜ record { told = told r; owners = now (owners .exit) } ≡ ownersOf m (now (elims .entry)) (now (owners .entry)) ⌝ }
 {
     mark_map(owners, nrows);
     let t = claim_blocks(ptrs, rows, elims, owners);

@@ -62,7 +62,12 @@ fn check_room(
     elims_local: usize,
 ) -> Answer
     requires { ⌜ RoomFits nrows «chunk_len» (kept / 2) (elims / 2) ⌝ }
-    ensures { λ r. ⌜ told r ≡ noRoom (roomList n nrows entries (kept / 2) (elims / 2) (chunkCount nrows «chunk_len») map «kept_cols» «elims_cols» «elims_blocks» owners «row_list» «row_starts» visible «visible_starts» «kept_starts» «kept_lo» «kept_hi» «kept_local» «elims_starts» «elims_lo» «elims_hi» «elims_local») ⌝ }
+    ensures { λ r.
+        ⌜ told r
+        ≡ noRoom
+        (roomList n nrows entries (kept / 2) (elims / 2) (chunkCount nrows «chunk_len») map «kept_cols» «elims_cols» «elims_blocks» owners «row_list»
+        «row_starts» visible «visible_starts» «kept_starts» «kept_lo» «kept_hi» «kept_local»
+        «elims_starts» «elims_lo» «elims_hi» «elims_local») ⌝ }
 {
     let starts = chunk_count(nrows, chunk_len) + 1;
     let room = [
@@ -131,7 +136,17 @@ pub fn plan(
     elims_hi: &mut [u32],
     elims_local: &mut [u32],
 ) -> Planned
-    ensures { λ r. ⌜ record { told = toldPlan r; left = buffers (now (map .exit)) (now («kept_cols» .exit)) (now («elims_cols» .exit)) (now («elims_blocks» .exit)) (now (owners .exit)) (now («row_list» .exit)) (now («row_starts» .exit)) (now (visible .exit)) (now («visible_starts» .exit)) (now («kept_starts» .exit)) (now («kept_lo» .exit)) (now («kept_hi» .exit)) (now («kept_local» .exit)) (now («elims_starts» .exit)) (now («elims_lo» .exit)) (now («elims_hi» .exit)) (now («elims_local» .exit)) } ≡ planned (columnsOf nrows (now (ptrs .entry)) (now (rows .entry)) (now (values .entry))) (now (kept .entry)) (now (elims .entry)) «chunk_len» (buffers (now (map .entry)) (now («kept_cols» .entry)) (now («elims_cols» .entry)) (now («elims_blocks» .entry)) (now (owners .entry)) (now («row_list» .entry)) (now («row_starts» .entry)) (now (visible .entry)) (now («visible_starts» .entry)) (now («kept_starts» .entry)) (now («kept_lo» .entry)) (now («kept_hi» .entry)) (now («kept_local» .entry)) (now («elims_starts» .entry)) (now («elims_lo» .entry)) (now («elims_hi» .entry)) (now («elims_local» .entry))) ⌝ }
+    ensures { λ r.
+        let m = columnsOf nrows (now (ptrs .entry)) (now (rows .entry)) (now (values .entry)) in
+        let lent = buffers (now (map .entry)) (now («kept_cols» .entry)) (now («elims_cols» .entry)) (now («elims_blocks» .entry))
+        (now (owners .entry)) (now («row_list» .entry)) (now («row_starts» .entry)) (now (visible .entry)) (now («visible_starts» .entry))
+        (now («kept_starts» .entry)) (now («kept_lo» .entry)) (now («kept_hi» .entry)) (now («kept_local» .entry))
+        (now («elims_starts» .entry)) (now («elims_lo» .entry)) (now («elims_hi» .entry)) (now («elims_local» .entry)) in
+        let left = buffers (now (map .exit)) (now («kept_cols» .exit)) (now («elims_cols» .exit)) (now («elims_blocks» .exit)) (now (owners .exit))
+        (now («row_list» .exit)) (now («row_starts» .exit)) (now (visible .exit)) (now («visible_starts» .exit)) (now («kept_starts» .exit))
+        (now («kept_lo» .exit)) (now («kept_hi» .exit)) (now («kept_local» .exit)) (now («elims_starts» .exit)) (now («elims_lo» .exit))
+        (now («elims_hi» .exit)) (now («elims_local» .exit)) in
+        ⌜ record { told = toldPlan r; left = left } ≡ planned m (now (kept .entry)) (now (elims .entry)) «chunk_len» lent ⌝ }
 {
     // 1 to 5
     let parts = check_parts(

@@ -13,7 +13,8 @@ use Rattle.plan.specs.Spans.{chunkCount, Spread}
 use Rattle.products.specs.Orders.{signOf, Swept, stepOf}
 use Rattle.products.specs.OrderWalk.{counts, placeTerms}
 
-module _ (e : Bool) (m : Columns) (kept elims : List ℕ) (len : ℕ) (maps : ℕ → List ℕ) (v : List Float) (s : Spread) (y : List Float) (order : List ℕ) where
+module _ (e : Bool) (m : Columns) (kept elims : List ℕ) (len : ℕ) (maps : ℕ → List ℕ) (v : List Float)
+    (s : Spread) (y : List Float) (order : List ℕ) where
   -- what the steps of an order's first i places leave, from rows y and progress 0. The step of place i is lent a map of its own, and the rows and the
   -- progress as the step before left them
   unfoldable pub stepsOf : ℕ → Swept

@@ -32,7 +32,7 @@ use Rattle.plan.specs.SpanWalk.{Chunked}
 use Rattle.products.specs.SideSums.{columnAt, sideGather}
 use Rattle.products.specs.Operator.{dampTerm, keptSum, keptSums, dampLength, planLengths, Sizes, operatorPairs}
 use Rattle.products.specs.OperatorCalls.{operatorLent, dampAt, dampedOn, DampFits}
-use Rattle.products.specs.PlanCheck.{planTold, PlanThere}
+use Rattle.products.specs.PlanCheck.{spansTold, PlanThere}
 use Rattle.products.proofs.SweepRules.{small-end}
 
 -- ---- the damping's length
@@ -122,16 +122,16 @@ module _ (nrows : ℕ) (m : Columns) (len kd ed count : ℕ) (z : Sizes) (ks es 
     pub elims-there : Chunked nrows len → PlanThere len chunks (length (es .starts)) (length (es .lo)) (length (es .hi)) (length (es .local))
     elims-there h = rw c (record { starts = right 7 (omega arith); hi = right 9 (omega arith); local = right 10 (omega arith); small = small-end nrows len h })
 
-    lent-is : operatorLent nrows m len kd ed count z ks es ≡ orElse (planTold false m kd len chunks ks) (planTold true m ed len chunks es)
+    lent-is : operatorLent nrows m len kd ed count z ks es ≡ orElse (spansTold false m kd len chunks ks) (spansTold true m ed len chunks es)
     unfolding operatorLent
     lent-is = rw (← wrong-is, e, c) (or-done _)
 
     -- k is what the kept plan's check told
-    module _ (k : Answer) (kept : told k ≡ planTold false m kd len chunks ks) where
+    module _ (k : Answer) (kept : told k ≡ spansTold false m kd len chunks ks) where
       pub kept-refused : (r : Refusal) → k ≡ Refused r → refused r ≡ operatorLent nrows m len kd ed count z ks es
       kept-refused r p = sym (lent-is ∙ rw (← kept, p) (or-refused r _))
 
-      pub both-plans : (t : Answer) → k ≡ Done → told t ≡ planTold true m ed len chunks es → told t ≡ operatorLent nrows m len kd ed count z ks es
+      pub both-plans : (t : Answer) → k ≡ Done → told t ≡ spansTold true m ed len chunks es → told t ≡ operatorLent nrows m len kd ed count z ks es
       both-plans t p r = r ∙ sym (lent-is ∙ rw (← kept, p) (or-done _))
 
 pub ruleset operating = (loops, damp-none, damp-some, damp-step, damp-vector, damp-out)

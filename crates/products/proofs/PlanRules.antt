@@ -21,7 +21,7 @@ use Rattle.blocks.proofs.LookupRules.{and-true}
 use Rattle.plan.specs.Spans.{inChunk, Spread}
 use Rattle.products.specs.Orders.{entryOut, spanBad, chunkBad, startsBad, planBad}
 use Rattle.products.specs.Side.{sideNumber}
-use Rattle.products.specs.PlanCheck.{rowsOnly, rowOut, endsOut, inColumn, narrowed, shapeOut, shapeOutAt, rowsOutAt, rowsStop, rowsStopAt, spanOut, spanOutAt, startsOut, planTold, Risen, Window, SomeThere, FewThere, EntriesThere, StartsThere, SpansThere, ChunkThere, ChunksThere, PlanThere}
+use Rattle.products.specs.PlanCheck.{rowsOnly, rowOut, endsOut, inColumn, narrowed, shapeOut, shapeOutAt, rowsOutAt, rowsStop, rowsStopAt, spanOut, spanOutAt, startsOut, spansTold, Risen, Window, SomeThere, FewThere, EntriesThere, StartsThere, SpansThere, ChunkThere, ChunksThere, PlanThere}
 
 pub or-of : (b t u : Bool) → t ≡ u → (b || t) ≡ (b || u)
 or-of b t u e = rw e
@@ -491,17 +491,17 @@ module _ (len chunks : ℕ) (starts : List ℕ) (nlo nhi nlocal : ℕ) (p : Plan
       }
 
 module _ (e : Bool) (m : Columns) (dof len chunks : ℕ) (s : Spread) (t : Bool) (call : t ≡ startsOut chunks (s .starts) (length (s .lo))) where
-  pub plan-falls : (n : ℕ) → t ≡ true → n ≡ sideNumber e → tell 13 (n ∷ []) ≡ planTold e m dof len chunks s
-  unfolding planTold planBad startsBad startsOut
+  pub plan-falls : (n : ℕ) → t ≡ true → n ≡ sideNumber e → tell 13 (n ∷ []) ≡ spansTold e m dof len chunks s
+  unfolding spansTold planBad startsBad startsOut
   plan-falls n q p = rw (sym call ∙ q, p)
 
   module _ (q : t ≡ false) (u : Bool) (chunk : u ≡ some (chunkBad m dof len s) 0 chunks) where
-    pub plan-out : (n : ℕ) → u ≡ true → n ≡ sideNumber e → tell 13 (n ∷ []) ≡ planTold e m dof len chunks s
-    unfolding planTold planBad startsBad startsOut
+    pub plan-out : (n : ℕ) → u ≡ true → n ≡ sideNumber e → tell 13 (n ∷ []) ≡ spansTold e m dof len chunks s
+    unfolding spansTold planBad startsBad startsOut
     plan-out n z p = rw (sym call ∙ q, ← chunk, z, p)
 
-    pub plan-done : u ≡ false → done ≡ planTold e m dof len chunks s
-    unfolding planTold planBad startsBad startsOut
+    pub plan-done : u ≡ false → done ≡ spansTold e m dof len chunks s
+    unfolding spansTold planBad startsBad startsOut
     plan-done z = rw (sym call ∙ q, ← chunk, z)
 
 pub ruleset planning = (

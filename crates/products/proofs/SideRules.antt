@@ -21,7 +21,7 @@ use Rattle.blocks.specs.Sides.{blockCount, firstOf, dofOf, cols, offsetOf, side
 use Rattle.blocks.proofs.SideLaws.{cols-at, offset-next}
 use Rattle.plan.proofs.ColumnRules.{first-place, next-place}
 use Rattle.products.specs.SideSums.{columnAt, sideTerms, sideGather}
-use Rattle.products.specs.SideFits.{localTerms, localSum, written, SideFits, BlockFits, DofsFit}
+use Rattle.products.specs.SideFits.{localTerms, localSum, written, SideFits, SideBlockFits, DofsFit}
 
 -- ---- how far the blocks have come: at is the next one's first place
 
@@ -36,7 +36,7 @@ dofs-in side b at dof f e d h = omega (arith, places-in side b at dof e d h, f .
 
 -- ---- one block: first and dof are what the code read
 
-module _ (n : ℕ) (ptrs rows : List ℕ) (values : List Float) (side : List ℕ) (b at k : ℕ) (f : BlockFits (columnsOf n ptrs rows values) side b at k) (first dof : ℕ) (p : first ≡ firstOf side b) (d : dof ≡ dofOf side b) where
+module _ (n : ℕ) (ptrs rows : List ℕ) (values : List Float) (side : List ℕ) (b at k : ℕ) (f : SideBlockFits (columnsOf n ptrs rows values) side b at k) (first dof : ℕ) (p : first ≡ firstOf side b) (d : dof ≡ dofOf side b) where
   pub block-in : at + dof ≤ k
   block-in = rw (f .fit .room) (places-in side b at dof (f .starts) d (f .there))
 
@@ -78,7 +78,7 @@ module _ (side : List ℕ) (b at dof : ℕ) (d : dof ≡ dofOf side b) where
 -- ---- all blocks
 
 pub block-fits : (n k : ℕ) (ptrs rows : List ℕ) (values : List Float) (side : List ℕ) (b at places many : ℕ) → SideFits (columnsOf n ptrs rows values) side places → k ≡ n → many ≡ places → at ≡ offsetOf side b
-    → b < blockCount side → BlockFits (columnsOf k ptrs rows values) side b at many
+    → b < blockCount side → SideBlockFits (columnsOf k ptrs rows values) side b at many
 block-fits n k ptrs rows values side b at places many f e q s h =
     rw (e, q) (record { fit = f; there = h; starts = s })
 

@@ -38,7 +38,7 @@ use Rattle.products.specs.declared.side.Side.{Side}
 use Rattle.products.specs.declared.side.Side.the-variants.{Kept, Eliminated}
 use Rattle.products.specs.Orders.{entryOut, spanBad, chunkBad, startsBad, planBad, badPlan, earlyChunked, lateBlocks}
 use Rattle.products.specs.Side.{eliminated}
-use Rattle.products.specs.PlanCheck.{Risen, rowsOnly, startsOut, planTold, PlanThere}
+use Rattle.products.specs.PlanCheck.{Risen, rowsOnly, startsOut, spansTold, PlanThere}
 use Rattle.products.specs.OrderWalk.{SpansFit, PlanFits}
 use Rattle.products.specs.SweepCheck.{chunkedLeft, checkChunked, lentLengths, lentSweep, checksTold, checkSweep, FewSides}
 use Rattle.products.specs.SideFits.{DofsFit}
@@ -193,13 +193,13 @@ module _ (e : Bool) (nrows : ℕ) (m : Columns) (dof len nv : ℕ) (s : Spread) 
       let r = lengths-right (lentLengths nrows dof len nv s ny np) p in
       rw count (record { starts = r 1 (omega arith); hi = r 3 (omega arith); local = r 4 (omega arith); small = small-end nrows len c })
 
-  pub lent-plan : (t : Answer) → w ≡ Done → told t ≡ planTold e m dof len chunks s → told t ≡ lentSweep e nrows m dof len nv s ny np
+  pub lent-plan : (t : Answer) → w ≡ Done → told t ≡ spansTold e m dof len chunks s → told t ≡ lentSweep e nrows m dof len nv s ny np
   unfolding lentSweep
   lent-plan t q p = p ∙ rw (← wrong-is, q, count) (sym (or-done _))
 
 -- the plan's check looks at the rows alone
-pub plan-told-is : (e : Bool) (m : Columns) (side : List ℕ) (len : ℕ) (s : Spread) → planTold e (rowsOnly (m .rows)) (sideDof side) len (chunkCount (m .nrows) len) s ≡ badPlan e m side len s
-unfolding planTold badPlan planBad chunkBad spanBad entryOut
+pub plan-told-is : (e : Bool) (m : Columns) (side : List ℕ) (len : ℕ) (s : Spread) → spansTold e (rowsOnly (m .rows)) (sideDof side) len (chunkCount (m .nrows) len) s ≡ badPlan e m side len s
+unfolding spansTold badPlan planBad chunkBad spanBad entryOut
 plan-told-is e m side len s = refl
 
 -- ---- the whole

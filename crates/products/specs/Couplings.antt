@@ -27,11 +27,9 @@ pub record Made : Type 0 where
   pub out : List Float
 
 abbrev pub made : Columns → List ℕ → List ℕ → List ℕ → List ℕ → List Float → List Float → Made
-made m kept elims map pairs new old = record {
-  told = lentTold m kept elims map pairs;
-  map = mapLeft (lentTold m kept elims map pairs) m kept elims map;
-  out = onPass (lentTold m kept elims map pairs) new old;
-}
+made m kept elims map pairs new old =
+    let t = lentTold m kept elims map pairs in
+    record { told = t; map = mapLeft t m kept elims map; out = onPass t new old }
 
 -- ---- the block inverses times b
 
@@ -61,15 +59,15 @@ coupledTold e m kept elims map v rows out = lentTold m kept elims map (couplingL
 
 -- from the eliminated side to the kept one where e holds, else from the kept side to the eliminated one
 unfoldable pub coupling : Bool → Columns → List ℕ → List ℕ → List ℕ → List Float → List Float → List Float → Coupled
-coupling e m kept elims map v rows out = record {
-  told = coupledTold e m kept elims map v rows out;
-  map = mapLeft (coupledTold e m kept elims map v rows out) m kept elims map;
-  rows = onPass (coupledTold e m kept elims map v rows out) (coupledRows m (sideOf e kept elims) v) rows;
-  out =
-      onPass (coupledTold e m kept elims map v rows out)
-      (sideGather zero₊ m (sideOf (not e) kept elims) (coupledRows m (sideOf e kept elims) v))
-      out;
-}
+coupling e m kept elims map v rows out =
+    let t = coupledTold e m kept elims map v rows out in
+    let y = coupledRows m (sideOf e kept elims) v in
+    record {
+      told = t;
+      map = mapLeft t m kept elims map;
+      rows = onPass t y rows;
+      out = onPass t (sideGather zero₊ m (sideOf (not e) kept elims) y) out;
+    }
 
 -- ---- the update: kept and eliminated entries back at their columns
 

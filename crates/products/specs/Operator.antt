@@ -120,14 +120,12 @@ operatorTold m kept elims len map o w =
 
 -- rows, t, u and out end as the steps leave them
 unfoldable pub operated : Columns → List ℕ → List ℕ → Operands → Work
-operated m kept elims o = record {
-  rows = reducedRows m (o .elims) (inverseTimes elims (o .inverses) (eliminatedSums m elims (keptRows m (o .kept) (o .v)))) (keptRows m (o .kept) (o .v));
-  t = eliminatedSums m elims (keptRows m (o .kept) (o .v));
-  u = inverseTimes elims (o .inverses) (eliminatedSums m elims (keptRows m (o .kept) (o .v)));
-  out =
-      keptSums m kept (o .d) (o .v)
-      (reducedRows m (o .elims) (inverseTimes elims (o .inverses) (eliminatedSums m elims (keptRows m (o .kept) (o .v)))) (keptRows m (o .kept) (o .v)));
-}
+operated m kept elims o =
+    let y = keptRows m (o .kept) (o .v) in
+    let t = eliminatedSums m elims y in
+    let u = inverseTimes elims (o .inverses) t in
+    let rows = reducedRows m (o .elims) u y in
+    record { rows = rows; t = t; u = u; out = keptSums m kept (o .d) (o .v) rows }
 
 -- what a call tells, and what it leaves; a refused one leaves all but the map as it was
 pub record Operated : Type 0 where
@@ -136,8 +134,10 @@ pub record Operated : Type 0 where
   pub work : Work
 
 unfoldable pub schurOperator : Columns → List ℕ → List ℕ → ℕ → List ℕ → Operands → Work → Operated
-schurOperator m kept elims len map o w = record {
-  told = operatorTold m kept elims len map o w;
-  map = mapAfter (earlyChunked m kept elims len map) (operatorTold m kept elims len map o w) (columnCount m) (claims (columnCount m) kept elims) map;
-  work = onPass (operatorTold m kept elims len map o w) (operated m kept elims o) w;
-}
+schurOperator m kept elims len map o w =
+    let t = operatorTold m kept elims len map o w in
+    record {
+      told = t;
+      map = mapAfter (earlyChunked m kept elims len map) t (columnCount m) (claims (columnCount m) kept elims) map;
+      work = onPass t (operated m kept elims o) w;
+    }

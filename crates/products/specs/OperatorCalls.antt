@@ -12,13 +12,13 @@ use Rattle.columns.specs.Columns.{Columns}
 use Rattle.columns.specs.Sums.{term, addTerm}
 use Rattle.plan.specs.Spans.{chunkCount, Spread}
 use Rattle.products.specs.Operator.{Sizes, operatorPairs}
-use Rattle.products.specs.PlanCheck.{planTold}
+use Rattle.products.specs.PlanCheck.{spansTold}
 
 -- 11, and 13 of either side, kept first
 unfoldable pub operatorLent : ℕ → Columns → ℕ → ℕ → ℕ → ℕ → Sizes → Spread → Spread → Told
 operatorLent nrows m len keptDof elimsDof count z kept elims =
     orElse (wrongLength (operatorPairs nrows (chunkCount nrows len) keptDof elimsDof count z kept elims))
-    (orElse (planTold false m keptDof len (chunkCount nrows len) kept) (planTold true m elimsDof len (chunkCount nrows len) elims))
+    (orElse (spansTold false m keptDof len (chunkCount nrows len) kept) (spansTold true m elimsDof len (chunkCount nrows len) elims))
 
 -- d·v added to the first places of out, as many as d has
 unfoldable pub dampAt : List Float → List Float → ℕ → List Float → List Float

@@ -86,7 +86,8 @@ badOrder chunks s order =
 
 -- the terms along an order: place i does its chunk's next span
 unfoldable pub orderTerms : Columns → Spread → List Float → List ℕ → List RowTerm
-orderTerms m s v order = gather (λ i. spanTerms m s v (getD (s .starts) (getD order i 0) 0 + served order (getD order i 0) i)) 0 (length order)
+orderTerms m s v order =
+    gather (λ i. spanTerms m s v (getD (s .starts) (getD order i 0) 0 + served order (getD order i 0) i)) 0 (length order)
 
 -- ---- calls
 
@@ -136,29 +137,37 @@ stepTold e m kept elims len map v s rows progress c =
     sweepTold e m kept elims len map v s rows progress (stepOrder (chunkCount (m .nrows) len) s c progress)
 
 unfoldable pub stepOf : Bool → Columns → List ℕ → List ℕ → ℕ → List ℕ → List Float → Spread → List Float → List ℕ → ℕ → Swept
-stepOf e m kept elims len map v s rows progress c = record {
-  told = stepTold e m kept elims len map v s rows progress c;
-  map = mapAfter (earlyChunked m kept elims len map) (stepTold e m kept elims len map v s rows progress c) (columnCount m) (claims (columnCount m) kept elims) map;
-  rows = onPass (stepTold e m kept elims len map v s rows progress c) (sweptOn (signOf e) rows (spanTerms m s v (getD (s .starts) c 0 + getD progress c 0))) rows;
-  progress = onPass (stepTold e m kept elims len map v s rows progress c) (set progress c (getD progress c 0 + 1)) progress;
-}
+stepOf e m kept elims len map v s rows progress c =
+    let t = stepTold e m kept elims len map v s rows progress c in
+    let next = getD (s .starts) c 0 + getD progress c 0 in
+    record {
+      told = t;
+      map = mapAfter (earlyChunked m kept elims len map) t (columnCount m) (claims (columnCount m) kept elims) map;
+      rows = onPass t (sweptOn (signOf e) rows (spanTerms m s v next)) rows;
+      progress = onPass t (set progress c (getD progress c 0 + 1)) progress;
+    }
 
 -- the kept sweep starts the rows at +0.0, the eliminated one from the lent rows
 abbrev pub startRows : Bool → List Float → List Float
 startRows e rows = cond e rows (replicate (length rows) zero₊)
 
-abbrev pub sweepTold₁₄ : Bool → Columns → List ℕ → List ℕ → ℕ → List ℕ → List Float → Spread → List Float → List ℕ → List ℕ → Told
+abbrev pub sweepTold₁₄ : Bool → Columns → List ℕ → List ℕ → ℕ → List ℕ
+    → List Float → Spread → List Float → List ℕ → List ℕ → Told
 sweepTold₁₄ e m kept elims len map v s rows progress order =
     sweepTold e m kept elims len map v s rows progress (badOrder (chunkCount (m .nrows) len) s order)
 
 -- after 14 the progress holds zeros; on success each chunk's span count
-unfoldable pub sweepOf : Bool → Columns → List ℕ → List ℕ → ℕ → List ℕ → List Float → Spread → List Float → List ℕ → List ℕ → Swept
-sweepOf e m kept elims len map v s rows progress order = record {
-  told = sweepTold₁₄ e m kept elims len map v s rows progress order;
-  map = mapAfter (earlyChunked m kept elims len map) (sweepTold₁₄ e m kept elims len map v s rows progress order) (columnCount m) (claims (columnCount m) kept elims) map;
-  rows = onPass (sweepTold₁₄ e m kept elims len map v s rows progress order) (sweptOn (signOf e) (startRows e rows) (orderTerms m s v order)) rows;
-  progress =
-      onPass (sweepTold e m kept elims len map v s rows progress done)
-      (onPass (badOrder (chunkCount (m .nrows) len) s order) (listOf (spanCount s) (chunkCount (m .nrows) len)) (replicate (chunkCount (m .nrows) len) 0))
-      progress;
-}
+unfoldable pub sweepOf : Bool → Columns → List ℕ → List ℕ → ℕ → List ℕ
+    → List Float → Spread → List Float → List ℕ → List ℕ → Swept
+sweepOf e m kept elims len map v s rows progress order =
+    let t = sweepTold₁₄ e m kept elims len map v s rows progress order in
+    let chunks = chunkCount (m .nrows) len in
+    record {
+      told = t;
+      map = mapAfter (earlyChunked m kept elims len map) t (columnCount m) (claims (columnCount m) kept elims) map;
+      rows = onPass t (sweptOn (signOf e) (startRows e rows) (orderTerms m s v order)) rows;
+      progress =
+          onPass (sweepTold e m kept elims len map v s rows progress done)
+          (onPass (badOrder chunks s order) (listOf (spanCount s) chunks) (replicate chunks 0))
+          progress;
+    }

@@ -62,8 +62,8 @@ unfoldable pub startsOut : ℕ → List ℕ → ℕ → Bool
 startsOut chunks starts n = not (eqb (getD starts 0 0) 0) || (some (falls starts) 0 chunks || not (eqb (getD starts chunks 0) n))
 
 -- 13 with the side
-unfoldable pub planTold : Bool → Columns → ℕ → ℕ → ℕ → Spread → Told
-planTold e m dof len chunks s = cond (planBad m dof len chunks s) (tell 13 (cond e 1 0 ∷ [])) done
+unfoldable pub spansTold : Bool → Columns → ℕ → ℕ → ℕ → Spread → Told
+spansTold e m dof len chunks s = cond (planBad m dof len chunks s) (tell 13 (cond e 1 0 ∷ [])) done
 
 -- ---- what its functions ask
 

@@ -33,7 +33,7 @@ pub record SideFits (m : Columns) (side : List ℕ) (n : ℕ) : Type 0 where
   pub room : n ≡ sideDof side
 
 -- so it is, and block b's entries begin at place `at`
-pub record BlockFits (m : Columns) (side : List ℕ) (b at n : ℕ) : Type 0 where
+pub record SideBlockFits (m : Columns) (side : List ℕ) (b at n : ℕ) : Type 0 where
   pub fit : SideFits m side n
   pub there : b < blockCount side
   pub starts : at ≡ offsetOf side b

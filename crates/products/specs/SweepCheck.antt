@@ -10,7 +10,7 @@ use Rattle.blocks.specs.Sides.{sideDof, sideOf}
 use Rattle.blocks.specs.Claims.{claims, mapAfter, Mapped}
 use Rattle.plan.specs.Spans.{chunkCount, Spread}
 use Rattle.products.specs.Orders.{badPlan, earlyChunked, lateBlocks}
-use Rattle.products.specs.PlanCheck.{planTold}
+use Rattle.products.specs.PlanCheck.{spansTold}
 use Rattle.products.specs.SideFits.{DofsFit}
 
 -- 1 to 9 of a call with a chunk length, and the map that they leave
@@ -40,7 +40,7 @@ lentLengths n dof len nv s ny np =
 
 -- 11 and 13
 unfoldable pub lentSweep : Bool → ℕ → Columns → ℕ → ℕ → ℕ → Spread → ℕ → ℕ → Told
-lentSweep e n m dof len nv s ny np = orElse (wrongLength (lentLengths n dof len nv s ny np)) (planTold e m dof len (chunkCount n len) s)
+lentSweep e n m dof len nv s ny np = orElse (wrongLength (lentLengths n dof len nv s ny np)) (spansTold e m dof len (chunkCount n len) s)
 
 -- 1 to 9, 11 and 13, and the map that they leave
 abbrev pub checksTold : Bool → Columns → List ℕ → List ℕ → ℕ → List ℕ → ℕ → Spread → ℕ → ℕ → Told

@@ -45,7 +45,11 @@ pub fn apply_eliminated_inverse(
     inverses: &[f64],
     out: &mut [f64],
 ) -> Answer
-    ensures { λ r. ⌜ record { told = told r; map = now (map .exit); out = now (out .exit) } ≡ applyEliminatedInverse (columnsOf nrows (now (ptrs .entry)) (now (rows .entry)) (now (values .entry))) (now (kept .entry)) (now (elims .entry)) (now (map .entry)) (now (b .entry)) (now (inverses .entry)) (now (out .entry)) ⌝ }
+    ensures { λ r.
+        let m = columnsOf nrows (now (ptrs .entry)) (now (rows .entry)) (now (values .entry)) in
+        ⌜ record { told = told r; map = now (map .exit); out = now (out .exit) }
+        ≡ applyEliminatedInverse m (now (kept .entry)) (now (elims .entry)) (now (map .entry)) (now (b .entry)) (now (inverses .entry))
+        (now (out .entry)) ⌝ }
 {
     let checked = check_blocks(nrows, ptrs, rows, values, kept, elims, map);
     if let Answer::Refused(r) = checked {
@@ -80,7 +84,9 @@ fn couple(
     out: &mut [f64],
 )
     requires { ⌜ CouplingFits (columnsOf (length (now y)) (now ptrs) (now rows) (now values)) (now from) (now to) (length (now v)) (length (now out)) ⌝ }
-    ensures { λ _. ⌜ record { rows = now (y .exit); out = now (out .exit) } ≡ coupled (columnsOf (length (now (y .entry))) (now (ptrs .entry)) (now (rows .entry)) (now (values .entry))) (now (from .entry)) (now (to .entry)) (now (v .entry)) ⌝ }
+    ensures { λ _.
+        let m = columnsOf (length (now (y .entry))) (now (ptrs .entry)) (now (rows .entry)) (now (values .entry)) in
+        ⌜ record { rows = now (y .exit); out = now (out .exit) } ≡ coupled m (now (from .entry)) (now (to .entry)) (now (v .entry)) ⌝ }
 {
     clear(y);
     sweep_side(Sign::Plus, ptrs, rows, values, from, v, y);
@@ -100,7 +106,10 @@ pub fn coupling_times(
     y: &mut [f64],
     out: &mut [f64],
 ) -> Answer
-    ensures { λ r. ⌜ record { told = told r; map = now (map .exit); rows = now (y .exit); out = now (out .exit) } ≡ coupling true (columnsOf nrows (now (ptrs .entry)) (now (rows .entry)) (now (values .entry))) (now (kept .entry)) (now (elims .entry)) (now (map .entry)) (now (u .entry)) (now (y .entry)) (now (out .entry)) ⌝ }
+    ensures { λ r.
+        let m = columnsOf nrows (now (ptrs .entry)) (now (rows .entry)) (now (values .entry)) in
+        ⌜ record { told = told r; map = now (map .exit); rows = now (y .exit); out = now (out .exit) }
+        ≡ coupling true m (now (kept .entry)) (now (elims .entry)) (now (map .entry)) (now (u .entry)) (now (y .entry)) (now (out .entry)) ⌝ }
 {
     let checked = check_blocks(nrows, ptrs, rows, values, kept, elims, map);
     if let Answer::Refused(r) = checked {
@@ -135,7 +144,10 @@ pub fn coupling_transpose_times(
     y: &mut [f64],
     out: &mut [f64],
 ) -> Answer
-    ensures { λ r. ⌜ record { told = told r; map = now (map .exit); rows = now (y .exit); out = now (out .exit) } ≡ coupling false (columnsOf nrows (now (ptrs .entry)) (now (rows .entry)) (now (values .entry))) (now (kept .entry)) (now (elims .entry)) (now (map .entry)) (now (v .entry)) (now (y .entry)) (now (out .entry)) ⌝ }
+    ensures { λ r.
+        let m = columnsOf nrows (now (ptrs .entry)) (now (rows .entry)) (now (values .entry)) in
+        ⌜ record { told = told r; map = now (map .exit); rows = now (y .exit); out = now (out .exit) }
+        ≡ coupling false m (now (kept .entry)) (now (elims .entry)) (now (map .entry)) (now (v .entry)) (now (y .entry)) (now (out .entry)) ⌝ }
 {
     let checked = check_blocks(nrows, ptrs, rows, values, kept, elims, map);
     if let Answer::Refused(r) = checked {

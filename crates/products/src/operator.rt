@@ -23,6 +23,7 @@ ghost use Rattle.plan.specs.SpanWalk.{Chunked};
 ghost use Rattle.products.specs.PlanCheck.{rowsOnly, Risen};
 ghost use Rattle.products.specs.Operator.{dampLength, schurOperator};
 ghost use Rattle.products.specs.OperatorCalls.{operatorLent, dampedOn, DampFits};
+ghost use Rattle.plan.specs.Spans.{spreadOf};
 
 // How long the vectors and work buffers are that an operator is lent.
 struct Sizes {
@@ -66,7 +67,13 @@ fn check_operands(
 ) -> Answer
     requires { ⌜ Risen (now ptrs) (now rows) ⌝ }
     requires { ⌜ Chunked nrows «chunk_len» ⌝ }
-    ensures { λ r. ⌜ told r ≡ operatorLent nrows (rowsOnly (now (rows .entry))) «chunk_len» «kept_dof» «elims_dof» count (record { v = sizes .v; inverses = sizes .inverses; d = sizes .d; rows = sizes .rows; t = sizes .t; u = sizes .u; out = sizes .out }) (record { starts = now («kept_starts» .entry); lo = now («kept_lo» .entry); hi = now («kept_hi» .entry); local = now («kept_local» .entry) }) (record { starts = now («elims_starts» .entry); lo = now («elims_lo» .entry); hi = now («elims_hi» .entry); local = now («elims_local» .entry) }) ⌝ }
+    ensures { λ r.
+        let keptLent = spreadOf (now («kept_starts» .entry)) (now («kept_lo» .entry)) (now («kept_hi» .entry)) (now («kept_local» .entry)) in
+        let elimsLent = spreadOf (now («elims_starts» .entry)) (now («elims_lo» .entry)) (now («elims_hi» .entry)) (now («elims_local» .entry)) in
+        ⌜ told r
+        ≡ operatorLent nrows (rowsOnly (now (rows .entry))) «chunk_len» «kept_dof» «elims_dof» count
+        (record { v = sizes .v; inverses = sizes .inverses; d = sizes .d; rows = sizes .rows; t = sizes .t; u = sizes .u; out = sizes .out }) keptLent
+        elimsLent ⌝ }
 {
     let chunks = chunk_count(nrows, chunk_len);
     let kept_spans = kept_lo.len();
@@ -171,7 +178,14 @@ pub fn apply_schur_operator(
     u: &mut [f64],
     out: &mut [f64],
 ) -> Answer
-    ensures { λ r. ⌜ record { told = told r; map = now (map .exit); work = record { rows = now (y .exit); t = now (t .exit); u = now (u .exit); out = now (out .exit) } } ≡ schurOperator (columnsOf nrows (now (ptrs .entry)) (now (rows .entry)) (now (values .entry))) (now (kept .entry)) (now (elims .entry)) «chunk_len» (now (map .entry)) (record { v = now (v .entry); inverses = now (inverses .entry); d = now (d .entry); kept = record { starts = now («kept_starts» .entry); lo = now («kept_lo» .entry); hi = now («kept_hi» .entry); local = now («kept_local» .entry) }; elims = record { starts = now («elims_starts» .entry); lo = now («elims_lo» .entry); hi = now («elims_hi» .entry); local = now («elims_local» .entry) } }) (record { rows = now (y .entry); t = now (t .entry); u = now (u .entry); out = now (out .entry) }) ⌝ }
+    ensures { λ r.
+        let m = columnsOf nrows (now (ptrs .entry)) (now (rows .entry)) (now (values .entry)) in
+        let keptLent = spreadOf (now («kept_starts» .entry)) (now («kept_lo» .entry)) (now («kept_hi» .entry)) (now («kept_local» .entry)) in
+        let elimsLent = spreadOf (now («elims_starts» .entry)) (now («elims_lo» .entry)) (now («elims_hi» .entry)) (now («elims_local» .entry)) in
+        ⌜ record { told = told r; map = now (map .exit); work = record { rows = now (y .exit); t = now (t .exit); u = now (u .exit); out = now (out .exit) } }
+        ≡ schurOperator m (now (kept .entry)) (now (elims .entry)) «chunk_len» (now (map .entry))
+        (record { v = now (v .entry); inverses = now (inverses .entry); d = now (d .entry); kept = keptLent; elims = elimsLent })
+        (record { rows = now (y .entry); t = now (t .entry); u = now (u .entry); out = now (out .entry) }) ⌝ }
 {
     let checked = check_chunked(nrows, ptrs, rows, values, kept, elims, chunk_len, map);
     if let Answer::Refused(r) = checked {

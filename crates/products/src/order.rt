@@ -21,7 +21,21 @@ ghost use Rattle.columns.specs.Refusals.{told};
 ghost use Rattle.columns.specs.Columns.{columnsOf};
 ghost use Rattle.products.specs.Orders.{hasNext, badOrder, startRows, stepOf, sweepOf};
 ghost use Rattle.products.specs.Side.{eliminated};
-ghost use Rattle.products.specs.OrderWalk.{entriesOnly, startsOnly, leftAt, countedTo, testedOrder, stepped, ranOrder, StartsFit, LeftFits, CountFits, StepFits, RunFits};
+ghost use Rattle.plan.specs.Spans.{spreadOf};
+ghost use Rattle.products.specs.OrderWalk.{
+  entriesOnly,
+  startsOnly,
+  leftAt,
+  countedTo,
+  testedOrder,
+  stepped,
+  ranOrder,
+  StartsFit,
+  LeftFits,
+  CountFits,
+  StepFits,
+  RunFits,
+};
 
 // Whether chunk c has a span left.
 fn chunk_left(starts: &[u32], progress: &[u32], c: usize) -> bool
@@ -60,7 +74,9 @@ fn some_left(starts: &[u32], progress: &[u32]) -> bool
 // with how often each chunk is named before that place.
 fn count_places(starts: &[u32], order: &[u32], progress: &mut [u32]) -> usize
     requires { ⌜ CountFits (length (now starts)) (now progress) ⌝ }
-    ensures { λ r. ⌜ record { place = r; progress = now (progress .exit) } ≡ countedTo (length (now (progress .entry))) (startsOnly (now (starts .entry))) (now (order .entry)) ⌝ }
+    ensures { λ r.
+        ⌜ record { place = r; progress = now (progress .exit) }
+        ≡ countedTo (length (now (progress .entry))) (startsOnly (now (starts .entry))) (now (order .entry)) ⌝ }
 {
     for i in 0..order.len() {
         let c = wide(order[i]);
@@ -91,7 +107,9 @@ fn try_order(starts: &[u32], order: &[u32], progress: &mut [u32]) -> Answer
 // Refusal 14 of an order; the progress ends at 0.
 fn check_order(starts: &[u32], order: &[u32], progress: &mut [u32]) -> Answer
     requires { ⌜ StartsFit (length (now starts)) (length (now progress)) ⌝ }
-    ensures { λ r. ⌜ record { told = told r; progress = now (progress .exit) } ≡ testedOrder (length (now (progress .entry))) (startsOnly (now (starts .entry))) (now (order .entry)) ⌝ }
+    ensures { λ r.
+        ⌜ record { told = told r; progress = now (progress .exit) }
+        ≡ testedOrder (length (now (progress .entry))) (startsOnly (now (starts .entry))) (now (order .entry)) ⌝ }
 {
     let t = try_order(starts, order, progress);
     fill(0, progress.len(), progress);
@@ -112,8 +130,13 @@ fn do_step(
     progress: &mut [u32],
     chunk: usize,
 )
-    requires { ⌜ StepFits (now rows) (length (now values)) (length (now v)) (length (now y)) (record { starts = now starts; lo = now lo; hi = now hi; local = now local }) (now progress) chunk ⌝ }
-    ensures { λ _. ⌜ record { rows = now (y .exit); progress = now (progress .exit) } ≡ stepped sign (entriesOnly (now (rows .entry)) (now (values .entry))) (record { starts = now (starts .entry); lo = now (lo .entry); hi = now (hi .entry); local = now (local .entry) }) (now (v .entry)) chunk (record { rows = now (y .entry); progress = now (progress .entry) }) ⌝ }
+    requires { ⌜ StepFits (now rows) (length (now values)) (length (now v)) (length (now y))
+        (spreadOf (now starts) (now lo) (now hi) (now local)) (now progress) chunk ⌝ }
+    ensures { λ _.
+        let lent = spreadOf (now (starts .entry)) (now (lo .entry)) (now (hi .entry)) (now (local .entry)) in
+        ⌜ record { rows = now (y .exit); progress = now (progress .exit) }
+        ≡ stepped sign (entriesOnly (now (rows .entry)) (now (values .entry))) lent (now (v .entry)) chunk
+        (record { rows = now (y .entry); progress = now (progress .entry) }) ⌝ }
 {
     let at = wide(starts[chunk]) + wide(progress[chunk]);
     do_span(sign, rows, values, v, lo, hi, local, at, y);
@@ -134,8 +157,13 @@ fn run_order(
     progress: &mut [u32],
     order: &[u32],
 )
-    requires { ⌜ RunFits (now rows) (length (now values)) (length (now v)) (length (now y)) (record { starts = now starts; lo = now lo; hi = now hi; local = now local }) (now progress) (now order) ⌝ }
-    ensures { λ _. ⌜ record { rows = now (y .exit); progress = now (progress .exit) } ≡ ranOrder sign (entriesOnly (now (rows .entry)) (now (values .entry))) (record { starts = now (starts .entry); lo = now (lo .entry); hi = now (hi .entry); local = now (local .entry) }) (now (v .entry)) (now (order .entry)) (record { rows = now (y .entry); progress = now (progress .entry) }) ⌝ }
+    requires { ⌜ RunFits (now rows) (length (now values)) (length (now v)) (length (now y))
+        (spreadOf (now starts) (now lo) (now hi) (now local)) (now progress) (now order) ⌝ }
+    ensures { λ _.
+        let lent = spreadOf (now (starts .entry)) (now (lo .entry)) (now (hi .entry)) (now (local .entry)) in
+        ⌜ record { rows = now (y .exit); progress = now (progress .exit) }
+        ≡ ranOrder sign (entriesOnly (now (rows .entry)) (now (values .entry))) lent (now (v .entry)) (now (order .entry))
+        (record { rows = now (y .entry); progress = now (progress .entry) }) ⌝ }
 {
     let n = order.len();
     for i in 0..n {
@@ -184,7 +212,12 @@ pub fn step(
     progress: &mut [u32],
     chunk: usize,
 ) -> Answer
-    ensures { λ r. ⌜ record { told = told r; map = now (map .exit); rows = now (y .exit); progress = now (progress .exit) } ≡ stepOf (eliminated side) (columnsOf nrows (now (ptrs .entry)) (now (rows .entry)) (now (values .entry))) (now (kept .entry)) (now (elims .entry)) «chunk_len» (now (map .entry)) (now (v .entry)) (record { starts = now (starts .entry); lo = now (lo .entry); hi = now (hi .entry); local = now (local .entry) }) (now (y .entry)) (now (progress .entry)) chunk ⌝ }
+    ensures { λ r.
+        let m = columnsOf nrows (now (ptrs .entry)) (now (rows .entry)) (now (values .entry)) in
+        let lent = spreadOf (now (starts .entry)) (now (lo .entry)) (now (hi .entry)) (now (local .entry)) in
+        ⌜ record { told = told r; map = now (map .exit); rows = now (y .exit); progress = now (progress .exit) }
+        ≡ stepOf (eliminated side) m (now (kept .entry)) (now (elims .entry)) «chunk_len» (now (map .entry)) (now (v .entry)) lent (now (y .entry))
+        (now (progress .entry)) chunk ⌝ }
 {
     let checked = check_sweep(
         side,
@@ -247,7 +280,12 @@ pub fn sweep(
     progress: &mut [u32],
     order: &[u32],
 ) -> Answer
-    ensures { λ r. ⌜ record { told = told r; map = now (map .exit); rows = now (y .exit); progress = now (progress .exit) } ≡ sweepOf (eliminated side) (columnsOf nrows (now (ptrs .entry)) (now (rows .entry)) (now (values .entry))) (now (kept .entry)) (now (elims .entry)) «chunk_len» (now (map .entry)) (now (v .entry)) (record { starts = now (starts .entry); lo = now (lo .entry); hi = now (hi .entry); local = now (local .entry) }) (now (y .entry)) (now (progress .entry)) (now (order .entry)) ⌝ }
+    ensures { λ r.
+        let m = columnsOf nrows (now (ptrs .entry)) (now (rows .entry)) (now (values .entry)) in
+        let lent = spreadOf (now (starts .entry)) (now (lo .entry)) (now (hi .entry)) (now (local .entry)) in
+        ⌜ record { told = told r; map = now (map .exit); rows = now (y .exit); progress = now (progress .exit) }
+        ≡ sweepOf (eliminated side) m (now (kept .entry)) (now (elims .entry)) «chunk_len» (now (map .entry)) (now (v .entry)) lent (now (y .entry))
+        (now (progress .entry)) (now (order .entry)) ⌝ }
 {
     let checked = check_sweep(
         side,

@@ -21,7 +21,32 @@ ghost use Rattle.columns.specs.Refusals.{told};
 ghost use Rattle.columns.specs.Unchecked.{RunThere};
 ghost use Rattle.products.specs.Orders.{chunkBad};
 ghost use Rattle.products.specs.Side.{eliminated};
-ghost use Rattle.products.specs.PlanCheck.{startsOut, rowsOnly, rowOut, endsOut, inColumn, narrowed, shapeOut, shapeOutAt, rowsOutAt, rowsStop, rowsStopAt, spanOutAt, planTold, Risen, Window, SomeThere, FewThere, EntriesThere, StartsThere, SpansThere, ChunkThere, ChunksThere, PlanThere};
+ghost use Rattle.plan.specs.Spans.{spreadOf};
+ghost use Rattle.products.specs.PlanCheck.{
+  startsOut,
+  rowsOnly,
+  rowOut,
+  endsOut,
+  inColumn,
+  narrowed,
+  shapeOut,
+  shapeOutAt,
+  rowsOutAt,
+  rowsStop,
+  rowsStopAt,
+  spanOutAt,
+  spansTold,
+  Risen,
+  Window,
+  SomeThere,
+  FewThere,
+  EntriesThere,
+  StartsThere,
+  SpansThere,
+  ChunkThere,
+  ChunksThere,
+  PlanThere,
+};
 
 // Whether the row at place p is below `from`, or past the `size` rows from there on: one comparison, since what is below `from` wraps.
 fn row_out(rows: &[u32], from: u32, size: u32, p: usize) -> bool
@@ -264,7 +289,8 @@ fn some_span_bad(
     requires { ⌜ Risen (now ptrs) (now rows) ⌝ }
     requires { ⌜ Window from size ⌝ }
     requires { ⌜ SpansThere (length (now lo)) (length (now hi)) (length (now local)) last ⌝ }
-    ensures { λ r. ⌜ r ≡ some (spanOutAt (now (rows .entry)) from (from + size) dof (now (lo .entry)) (now (hi .entry)) (now (local .entry))) first last ⌝ }
+    ensures { λ r.
+        ⌜ r ≡ some (spanOutAt (now (rows .entry)) from (from + size) dof (now (lo .entry)) (now (hi .entry)) (now (local .entry))) first last ⌝ }
 {
     if some_shape_bad(rows.len(), dof, lo, hi, local, first, last) {
         return true;
@@ -286,7 +312,9 @@ fn chunk_bad(
 ) -> bool
     requires { ⌜ Risen (now ptrs) (now rows) ⌝ }
     requires { ⌜ ChunkThere len (now starts) (length (now lo)) (length (now hi)) (length (now local)) c ⌝ }
-    ensures { λ r. ⌜ r ≡ chunkBad (rowsOnly (now (rows .entry))) dof len (record { starts = now (starts .entry); lo = now (lo .entry); hi = now (hi .entry); local = now (local .entry) }) c ⌝ }
+    ensures { λ r.
+        let lent = spreadOf (now (starts .entry)) (now (lo .entry)) (now (hi .entry)) (now (local .entry)) in
+        ⌜ r ≡ chunkBad (rowsOnly (now (rows .entry))) dof len lent c ⌝ }
 {
     let from = c * len;
     let first = wide(starts[c]);
@@ -318,7 +346,9 @@ fn some_chunk_bad(
 ) -> bool
     requires { ⌜ Risen (now ptrs) (now rows) ⌝ }
     requires { ⌜ ChunksThere len chunks (now starts) (length (now lo)) (length (now hi)) (length (now local)) ⌝ }
-    ensures { λ r. ⌜ r ≡ some (chunkBad (rowsOnly (now (rows .entry))) dof len (record { starts = now (starts .entry); lo = now (lo .entry); hi = now (hi .entry); local = now (local .entry) })) 0 chunks ⌝ }
+    ensures { λ r.
+        let lent = spreadOf (now (starts .entry)) (now (lo .entry)) (now (hi .entry)) (now (local .entry)) in
+        ⌜ r ≡ some (chunkBad (rowsOnly (now (rows .entry))) dof len lent) 0 chunks ⌝ }
 {
     for c in 0..chunks {
         if chunk_bad(ptrs, rows, dof, len, starts, lo, hi, local, c) {
@@ -357,7 +387,9 @@ pub(crate) fn check_plan(
 ) -> Answer
     requires { ⌜ Risen (now ptrs) (now rows) ⌝ }
     requires { ⌜ PlanThere len chunks (length (now starts)) (length (now lo)) (length (now hi)) (length (now local)) ⌝ }
-    ensures { λ r. ⌜ told r ≡ planTold (eliminated side) (rowsOnly (now (rows .entry))) dof len chunks (record { starts = now (starts .entry); lo = now (lo .entry); hi = now (hi .entry); local = now (local .entry) }) ⌝ }
+    ensures { λ r.
+        let lent = spreadOf (now (starts .entry)) (now (lo .entry)) (now (hi .entry)) (now (local .entry)) in
+        ⌜ told r ≡ spansTold (eliminated side) (rowsOnly (now (rows .entry))) dof len chunks lent ⌝ }
 {
     if starts_bad(starts, chunks, lo.len()) {
         return Answer::Refused(Refusal::BadPlan {

@@ -13,7 +13,20 @@ ghost use Rattle.columns.specs.Sums.{zero₊, sumFrom, sweptOn};
 ghost use Rattle.blocks.specs.Sides.{dofOf, sideDof};
 ghost use Rattle.blocks.specs.BlockValues.{writing, put};
 ghost use Rattle.products.specs.SideSums.{sideTerms, sideGather, inverseTimes};
-ghost use Rattle.products.specs.SideFits.{localTerms, localSum, written, SideFits, BlockFits, DofsFit, blockTerm, blockRow, TermFits, RowFits, RowsFit, InversesFit};
+ghost use Rattle.products.specs.SideFits.{
+  localTerms,
+  localSum,
+  written,
+  SideFits,
+  SideBlockFits,
+  DofsFit,
+  blockTerm,
+  blockRow,
+  TermFits,
+  RowFits,
+  RowsFit,
+  InversesFit,
+};
 
 // A side's dof. The checks bound it, so the sum fits.
 pub(crate) fn side_dof(side: &[u32]) -> usize
@@ -40,8 +53,11 @@ fn sweep_block(
     v: &[f64],
     y: &mut [f64],
 )
-    requires { ⌜ BlockFits (columnsOf (length (now y)) (now ptrs) (now rows) (now values)) (now side) b at (length (now v)) ⌝ }
-    ensures { λ _. ⌜ now (y .exit) ≡ sweptOn sign (now (y .entry)) (gather (localTerms (columnsOf (length (now (y .entry))) (now (ptrs .entry)) (now (rows .entry)) (now (values .entry))) (now (side .entry)) (now (v .entry))) at (at + dofOf (now (side .entry)) b)) ⌝ }
+    requires { ⌜ SideBlockFits (columnsOf (length (now y)) (now ptrs) (now rows) (now values)) (now side) b at (length (now v)) ⌝ }
+    ensures { λ _.
+        let m = columnsOf (length (now (y .entry))) (now (ptrs .entry)) (now (rows .entry)) (now (values .entry)) in
+        ⌜ now (y .exit)
+        ≡ sweptOn sign (now (y .entry)) (gather (localTerms m (now (side .entry)) (now (v .entry))) at (at + dofOf (now (side .entry)) b)) ⌝ }
 {
     let first = wide(side[b + b]);
     let dof = wide(side[b + b + 1]);
@@ -61,7 +77,9 @@ pub(crate) fn sweep_side(
     y: &mut [f64],
 )
     requires { ⌜ SideFits (columnsOf (length (now y)) (now ptrs) (now rows) (now values)) (now side) (length (now v)) ⌝ }
-    ensures { λ _. ⌜ now (y .exit) ≡ sweptOn sign (now (y .entry)) (sideTerms (columnsOf (length (now (y .entry))) (now (ptrs .entry)) (now (rows .entry)) (now (values .entry))) (now (side .entry)) (now (v .entry))) ⌝ }
+    ensures { λ _.
+        let m = columnsOf (length (now (y .entry))) (now (ptrs .entry)) (now (rows .entry)) (now (values .entry)) in
+        ⌜ now (y .exit) ≡ sweptOn sign (now (y .entry)) (sideTerms m (now (side .entry)) (now (v .entry))) ⌝ }
 {
     let count = side.len() / 2;
     let mut at: usize = 0;
@@ -83,8 +101,11 @@ fn gather_block(
     start: f64,
     out: &mut [f64],
 )
-    requires { ⌜ BlockFits (columnsOf (length (now y)) (now ptrs) (now rows) (now values)) (now side) b at (length (now out)) ⌝ }
-    ensures { λ _. ⌜ now (out .exit) ≡ written (localSum start (columnsOf (length (now (y .entry))) (now (ptrs .entry)) (now (rows .entry)) (now (values .entry))) (now (side .entry)) (now (y .entry))) at (at + dofOf (now (side .entry)) b) (now (out .entry)) ⌝ }
+    requires { ⌜ SideBlockFits (columnsOf (length (now y)) (now ptrs) (now rows) (now values)) (now side) b at (length (now out)) ⌝ }
+    ensures { λ _.
+        let m = columnsOf (length (now (y .entry))) (now (ptrs .entry)) (now (rows .entry)) (now (values .entry)) in
+        ⌜ now (out .exit)
+        ≡ written (localSum start m (now (side .entry)) (now (y .entry))) at (at + dofOf (now (side .entry)) b) (now (out .entry)) ⌝ }
 {
     let first = wide(side[b + b]);
     let dof = wide(side[b + b + 1]);
@@ -104,7 +125,9 @@ pub(crate) fn gather_side(
     out: &mut [f64],
 )
     requires { ⌜ SideFits (columnsOf (length (now y)) (now ptrs) (now rows) (now values)) (now side) (length (now out)) ⌝ }
-    ensures { λ _. ⌜ now (out .exit) ≡ sideGather start (columnsOf (length (now (y .entry))) (now (ptrs .entry)) (now (rows .entry)) (now (values .entry))) (now (side .entry)) (now (y .entry)) ⌝ }
+    ensures { λ _.
+        let m = columnsOf (length (now (y .entry))) (now (ptrs .entry)) (now (rows .entry)) (now (values .entry)) in
+        ⌜ now (out .exit) ≡ sideGather start m (now (side .entry)) (now (y .entry)) ⌝ }
 {
     let count = side.len() / 2;
     let mut at: usize = 0;
@@ -146,7 +169,9 @@ fn inverse_row(inverses: &[f64], t: &[f64], dof: usize, from: usize, at: usize, 
 // A block's rows, from place `at` on.
 fn inverse_rows(inverses: &[f64], t: &[f64], dof: usize, from: usize, at: usize, out: &mut [f64])
     requires { ⌜ RowsFit (length (now inverses)) (length (now t)) dof from at (length (now out)) ⌝ }
-    ensures { λ _. ⌜ writing (at + dof) (now (out .exit)) ≡ folded put (writing at (now (out .entry))) (gather (blockRow (now (inverses .entry)) (now (t .entry)) dof from at) 0 dof) ⌝ }
+    ensures { λ _.
+        ⌜ writing (at + dof) (now (out .exit))
+        ≡ folded put (writing at (now (out .entry))) (gather (blockRow (now (inverses .entry)) (now (t .entry)) dof from at) 0 dof) ⌝ }
 {
     for r in 0..dof {
         out[at + r] = inverse_row(inverses, t, dof, from, at, r);
@@ -156,7 +181,9 @@ fn inverse_rows(inverses: &[f64], t: &[f64], dof: usize, from: usize, at: usize,
 // The same; a block of three, the dof of a point, is told apart so that the compiler writes its rows out without a loop.
 fn inverse_block(inverses: &[f64], t: &[f64], dof: usize, from: usize, at: usize, out: &mut [f64])
     requires { ⌜ RowsFit (length (now inverses)) (length (now t)) dof from at (length (now out)) ⌝ }
-    ensures { λ _. ⌜ writing (at + dof) (now (out .exit)) ≡ folded put (writing at (now (out .entry))) (gather (blockRow (now (inverses .entry)) (now (t .entry)) dof from at) 0 dof) ⌝ }
+    ensures { λ _.
+        ⌜ writing (at + dof) (now (out .exit))
+        ≡ folded put (writing at (now (out .entry))) (gather (blockRow (now (inverses .entry)) (now (t .entry)) dof from at) 0 dof) ⌝ }
 {
     if dof == 3 {
         inverse_rows(inverses, t, 3, from, at, out);

@@ -23,7 +23,11 @@ pub(crate) fn do_span(
     y: &mut [f64],
 )
     requires { ⌜ SpanFits (now rows) (length (now values)) (length (now v)) (length (now y)) (now lo) (now hi) (now local) k ⌝ }
-    ensures { λ _. ⌜ now (y .exit) ≡ sweptOn sign (now (y .entry)) (spanTerms (entriesOnly (now (rows .entry)) (now (values .entry))) (spansOnly (now (lo .entry)) (now (hi .entry)) (now (local .entry))) (now (v .entry)) k) ⌝ }
+    ensures { λ _.
+        ⌜ now (y .exit)
+        ≡ sweptOn sign (now (y .entry))
+        (spanTerms (entriesOnly (now (rows .entry)) (now (values .entry))) (spansOnly (now (lo .entry)) (now (hi .entry)) (now (local .entry)))
+        (now (v .entry)) k) ⌝ }
 {
     let x = v[wide(local[k])];
     let a = wide(lo[k]);
@@ -47,7 +51,12 @@ pub(crate) fn sweep_plan(
     y: &mut [f64],
 )
     requires { ⌜ SpansFit (now rows) (length (now values)) (length (now v)) (length (now y)) (now lo) (now hi) (now local) ⌝ }
-    ensures { λ _. ⌜ now (y .exit) ≡ sweptOn sign (now (y .entry)) (gather (spanTerms (entriesOnly (now (rows .entry)) (now (values .entry))) (spansOnly (now (lo .entry)) (now (hi .entry)) (now (local .entry))) (now (v .entry))) 0 (length (now (lo .entry)))) ⌝ }
+    ensures { λ _.
+        ⌜ now (y .exit)
+        ≡ sweptOn sign (now (y .entry))
+        (gather
+        (spanTerms (entriesOnly (now (rows .entry)) (now (values .entry))) (spansOnly (now (lo .entry)) (now (hi .entry)) (now (local .entry)))
+        (now (v .entry))) 0 (length (now (lo .entry)))) ⌝ }
 {
     for k in 0..lo.len() {
         do_span(sign, rows, values, v, lo, hi, local, k, y);

@@ -21,6 +21,7 @@ ghost use Rattle.plan.specs.SpanWalk.{Chunked};
 ghost use Rattle.products.specs.Side.{eliminated};
 ghost use Rattle.products.specs.PlanCheck.{rowsOnly, Risen};
 ghost use Rattle.products.specs.SweepCheck.{checkChunked, lentSweep, checkSweep, FewSides};
+ghost use Rattle.plan.specs.Spans.{spreadOf};
 
 // The dof of the side that a call is for.
 fn dof_of(side: Side, kept: &[u32], elims: &[u32]) -> usize
@@ -44,7 +45,9 @@ pub(crate) fn check_chunked(
     chunk_len: usize,
     map: &mut [u32],
 ) -> Answer
-    ensures { λ r. ⌜ record { told = told r; map = now (map .exit) } ≡ checkChunked (columnsOf nrows (now (ptrs .entry)) (now (rows .entry)) (now (values .entry))) (now (kept .entry)) (now (elims .entry)) «chunk_len» (now (map .entry)) ⌝ }
+    ensures { λ r.
+        let m = columnsOf nrows (now (ptrs .entry)) (now (rows .entry)) (now (values .entry)) in
+        ⌜ record { told = told r; map = now (map .exit) } ≡ checkChunked m (now (kept .entry)) (now (elims .entry)) «chunk_len» (now (map .entry)) ⌝ }
 {
     let n = column_count(ptrs);
     let room = [map.len(), n];
@@ -74,7 +77,9 @@ fn check_lent(
 ) -> Answer
     requires { ⌜ Risen (now ptrs) (now rows) ⌝ }
     requires { ⌜ Chunked nrows «chunk_len» ⌝ }
-    ensures { λ r. ⌜ told r ≡ lentSweep (eliminated side) nrows (rowsOnly (now (rows .entry))) dof «chunk_len» nv (record { starts = now (starts .entry); lo = now (lo .entry); hi = now (hi .entry); local = now (local .entry) }) ny nprogress ⌝ }
+    ensures { λ r.
+        let lent = spreadOf (now (starts .entry)) (now (lo .entry)) (now (hi .entry)) (now (local .entry)) in
+        ⌜ told r ≡ lentSweep (eliminated side) nrows (rowsOnly (now (rows .entry))) dof «chunk_len» nv lent ny nprogress ⌝ }
 {
     let chunks = chunk_count(nrows, chunk_len);
     let spans = lo.len();
@@ -130,7 +135,11 @@ pub(crate) fn check_sweep(
     ny: usize,
     nprogress: usize,
 ) -> Answer
-    ensures { λ r. ⌜ record { told = told r; map = now (map .exit) } ≡ checkSweep (eliminated side) (columnsOf nrows (now (ptrs .entry)) (now (rows .entry)) (now (values .entry))) (now (kept .entry)) (now (elims .entry)) «chunk_len» (now (map .entry)) nv (record { starts = now (starts .entry); lo = now (lo .entry); hi = now (hi .entry); local = now (local .entry) }) ny nprogress ⌝ }
+    ensures { λ r.
+        let m = columnsOf nrows (now (ptrs .entry)) (now (rows .entry)) (now (values .entry)) in
+        let lent = spreadOf (now (starts .entry)) (now (lo .entry)) (now (hi .entry)) (now (local .entry)) in
+        ⌜ record { told = told r; map = now (map .exit) }
+        ≡ checkSweep (eliminated side) m (now (kept .entry)) (now (elims .entry)) «chunk_len» (now (map .entry)) nv lent ny nprogress ⌝ }
 {
     let checked = check_chunked(nrows, ptrs, rows, values, kept, elims, chunk_len, map);
     if let Answer::Refused(r) = checked {

@@ -28,7 +28,9 @@ fn update_at(map: &[u32], kept_update: &[f64], elims_update: &[f64], c: usize) -
 // One pass over the columns.
 fn put_updates(map: &[u32], kept_update: &[f64], elims_update: &[f64], out: &mut [f64])
     requires { ⌜ UpdatesFit (now map) (length (now «kept_update»)) (length (now «elims_update»)) (length (now out)) ⌝ }
-    ensures { λ _. ⌜ now (out .exit) ≡ listOf (updateBy (now (map .entry)) (now («kept_update» .entry)) (now («elims_update» .entry))) (length (now (out .entry))) ⌝ }
+    ensures { λ _.
+        ⌜ now (out .exit)
+        ≡ listOf (updateBy (now (map .entry)) (now («kept_update» .entry)) (now («elims_update» .entry))) (length (now (out .entry))) ⌝ }
 {
     for c in 0..out.len() {
         out[c] = update_at(map, kept_update, elims_update, c);
@@ -48,7 +50,11 @@ pub fn combine_updates(
     elims_update: &[f64],
     out: &mut [f64],
 ) -> Answer
-    ensures { λ r. ⌜ record { told = told r; map = now (map .exit); out = now (out .exit) } ≡ combineUpdates (columnsOf nrows (now (ptrs .entry)) (now (rows .entry)) (now (values .entry))) (now (kept .entry)) (now (elims .entry)) (now (map .entry)) (now («kept_update» .entry)) (now («elims_update» .entry)) (now (out .entry)) ⌝ }
+    ensures { λ r.
+        let m = columnsOf nrows (now (ptrs .entry)) (now (rows .entry)) (now (values .entry)) in
+        ⌜ record { told = told r; map = now (map .exit); out = now (out .exit) }
+        ≡ combineUpdates m (now (kept .entry)) (now (elims .entry)) (now (map .entry)) (now («kept_update» .entry)) (now («elims_update» .entry))
+        (now (out .entry)) ⌝ }
 {
     let checked = check_blocks(nrows, ptrs, rows, values, kept, elims, map);
     if let Answer::Refused(r) = checked {
