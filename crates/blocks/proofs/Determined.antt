@@ -1,6 +1,7 @@
--- Any two outcomes that the promise of a public function of src/check.rt permits agree. `Post` is the contract's own reading, at the arguments a, the
+-- Any two outcomes that the promise of a public function of src/check.rt or src/owner.rt permits agree. `Post` is the contract's own reading, at the arguments a, the
 -- answer and the parameters at exit. Assumes nothing.
 use mathlib.Core.Path.{_≡_, sym, ap, _∙_}
+use mathlib.Core.Bool.{Bool}
 use mathlib.Core.List.{List}
 use Prim.Native.Nat.{ℕ}
 use contract.Lifetimes.{Lfts}
@@ -18,6 +19,7 @@ use Rattle.blocks.proofs.check.check_early.Reads as early
 use Rattle.blocks.proofs.check.mark_map.Reads as marks
 use Rattle.blocks.proofs.check.walk_blocks.Reads as walk
 use Rattle.blocks.proofs.check.check_blocks.Reads as blocks
+use Rattle.blocks.proofs.owner.Owner.is_none.Reads as none
 
 -- what is told, and what is told with the map that is left
 pub told-determined : (t : Told) → Determined (λ (a : Answer). told a ≡ t)
@@ -42,6 +44,9 @@ check-early κs a s t p q = told-determined _ p q
 
 pub mark-map : (κs : Lfts 1) (a : _) (s t : _) (p q : _) → marks.Post κs a p s → marks.Post κs a q t → now (s .0) ≡ now (t .0)
 mark-map κs a s t p q x y = x ∙ sym y
+
+pub is-none : (κs : Lfts 0) (a : _) (s t : _) (p q : Bool) → none.Post κs a p s → none.Post κs a q t → p ≡ q
+is-none κs a s t p q x y = x ∙ sym y
 
 pub walk-blocks : (κs : Lfts 3) (a : _) (s t : _) (p q : Answer) → walk.Post κs a p s → walk.Post κs a q t
     → _≡_ {A = Answer × List ℕ} (p, now (s .1 .1 .1 .0)) (q, now (t .1 .1 .1 .0))
