@@ -1,4 +1,4 @@
--- The laws of specs/. The layers above cite SideLaws, PartLaws, MapLaws, LookupLaws, AccessLaws, DampingLaws and ValueLaws; the others serve the
+-- The laws of specs/. The layers above cite SideLaws, PartLaws, MapLaws, MarkLaws, LookupLaws, AccessLaws, DampingLaws and ValueLaws; the others serve the
 -- proofs of the functions.
 pub mod PlaceLaws
 pub mod SideLaws
@@ -7,6 +7,7 @@ pub mod WalkLaws
 pub mod CallRules
 pub mod PartLaws
 pub mod MapLaws
+pub mod MarkLaws
 pub mod DampingRules
 pub mod DampingLaws
 pub mod LookupRules

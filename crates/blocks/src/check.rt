@@ -1,6 +1,7 @@
 // The check of both sides' blocks against the columns, refusals 1 to 4 and 6 to 9, and the map that it fills: from a column to its place
 // among the kept columns, or past them among the eliminated ones. No sum of dofs is formed: the walk stops at the first column that does
 // not exist or is taken, so however wild the numbers are nothing overflows.
+use crate::owner::Owner;
 use columns::check::check_columns;
 use columns::check::column_count;
 use columns::refusal::Answer;
@@ -17,9 +18,6 @@ ghost use Rattle.columns.specs.Refusals.{told};
 ghost use Rattle.columns.specs.Columns.{columnsOf};
 ghost use Rattle.blocks.specs.Claims.{tooMany, isOdd, listsTold, emptySide, partsTold, earlyTold, blockClaims, sideClaims, claims, marked, checkBlocks};
 ghost use Rattle.blocks.specs.Walk.{isFree, through, walkOf, walked, walkBlocks, Room, BlockWalks, Roomy, Tried};
-
-// What the map holds at a column that no block has claimed, and at every column after a refusal.
-pub const MARK: u32 = 4_294_967_295;
 
 pub(crate) const MOST_BLOCKS: usize = 65_536;
 
@@ -111,7 +109,7 @@ fn mark_places(map: &mut [u32], n: usize)
     ensures { λ _. ⌜ now (map .exit) ≡ marked n (now (map .entry)) ⌝ }
 {
     for i in 0..n {
-        map[i] = MARK;
+        map[i] = Owner::NONE;
     }
 }
 
@@ -133,7 +131,7 @@ fn first_free(map: &[u32], n: usize) -> usize
     ensures { λ r. ⌜ r ≡ first (isFree (now (map .entry))) 0 n ⌝ }
 {
     for c in 0..n {
-        if map[c] == MARK {
+        if map[c] == Owner::NONE {
             return c;
         }
     }
@@ -162,7 +160,7 @@ fn claim_block(side: &[u32], b: usize, n: usize, start: u32, map: &mut [u32]) ->
         if n <= c {
             return Walk::Stopped(Refusal::ColumnOutOfRange { column: c });
         }
-        if map[c] != MARK {
+        if map[c] != Owner::NONE {
             return Walk::Stopped(Refusal::ColumnTwice { column: c });
         }
         map[c] = next;

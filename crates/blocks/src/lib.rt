@@ -4,4 +4,5 @@ pub mod block_values;
 pub mod check;
 pub mod damping;
 pub mod eliminated_blocks;
+pub mod owner;
 pub mod partition;

@@ -1,5 +1,5 @@
 -- What the self-check's cases rest on: each comparison answers true where a call gave what the table has. Assumes nothing.
-use mathlib.Core.Path.{_≡_, sym, ap, _∙_}
+use mathlib.Core.Path.{_≡_, refl, ap, _∙_}
 use mathlib.Core.Bool.{Bool, true, _&&_, not}
 use mathlib.Core.List.{List, _++_}
 use Prim.Native.Nat.{ℕ}
@@ -29,14 +29,12 @@ pub floats-held : (expected : List Float) {got : List Float} {figures : List Flo
     → floatsBegin figures expected ≡ true → r ≡ true
 floats-held expected e q t = e ∙ ap (λ (l : List Float). floatsBegin l expected) q ∙ t
 
--- n is what `answer_numbers` or `plan_numbers` gave, r what `are` answered
-pub numbers-told : (number count first second : ℕ) {n : Numbers} {given expected : Told} {r : Bool} → r ≡ tells n number count first second → n ≡ numbersOf given
-    → given ≡ expected → r ≡ tells (numbersOf expected) number count first second
-numbers-told number count first second e n q = e ∙ ap (λ (m : Numbers). tells m number count first second) (n ∙ ap numbersOf q)
+tells-same : (n : Numbers) → tells n n ≡ true
+tells-same n = rw (eq-eqb (n .number) _ refl, eq-eqb (n .count) _ refl, eq-eqb (n .first) _ refl, eq-eqb (n .second) _ refl)
 
-pub numbers-held : (number count first second : ℕ) {n : Numbers} {given expected : Told} {r : Bool} → r ≡ tells n number count first second → n ≡ numbersOf given
-    → given ≡ expected → tells (numbersOf expected) number count first second ≡ true → r ≡ true
-numbers-held number count first second e n q t = numbers-told number count first second e n q ∙ t
+-- n is what `answer_numbers` or `plan_numbers` gave, r what `are` answered
+pub numbers-held : (expected : Told) {n : Numbers} {given : Told} {r : Bool} → r ≡ tells n (numbersOf expected) → n ≡ numbersOf given → given ≡ expected → r ≡ true
+numbers-held expected e n q = e ∙ ap (λ (m : Numbers). tells m (numbersOf expected)) (n ∙ ap numbersOf q) ∙ tells-same (numbersOf expected)
 
 -- r is what `is_sum` answered
 pub sum-held : (sum : Float) {given figures : List Float} {r : Bool} → r ≡ isSum given sum → given ≡ figures → isSum figures sum ≡ true → r ≡ true

@@ -32,8 +32,8 @@ floatsBegin got expected = leb (length expected) (length got) && not (some (floa
 abbrev pub numbersOf : Told → Numbers
 numbersOf t = record { number = t .number; count = length (t .values); first = getD (t .values) 0 0; second = getD (t .values) 1 0 }
 
-abbrev pub tells : Numbers → ℕ → ℕ → ℕ → ℕ → Bool
-tells n number count first second = ((eqb (n .number) number && eqb (n .count) count) && eqb (n .first) first) && eqb (n .second) second
+abbrev pub tells : Numbers → Numbers → Bool
+tells n e = ((eqb (n .number) (e .number) && eqb (n .count) (e .count)) && eqb (n .first) (e .first)) && eqb (n .second) (e .second)
 
 -- the sums of a dot are this one; a refused dot has none
 abbrev pub isSum : List Float → Float → Bool

@@ -2,15 +2,18 @@
 use crate::calls::operate;
 use crate::calls::plan_hall;
 use crate::calls::sweep_kept;
+use crate::same::Numbers;
 use crate::same::answer_numbers;
 use crate::same::is_sum;
 use crate::same::plan_numbers;
 use crate::same::same;
 use crate::same::same_floats;
+use crate::tables::CONNECTED;
 use crate::tables::COUPLED;
 use crate::tables::DAMPED;
 use crate::tables::DAMPING;
 use crate::tables::DIAGONAL;
+use crate::tables::DONE;
 use crate::tables::DOT_0_1;
 use crate::tables::DOT_0_2;
 use crate::tables::ELIMS;
@@ -29,15 +32,20 @@ use crate::tables::ORDER;
 use crate::tables::OUT;
 use crate::tables::OWNERS;
 use crate::tables::PAST;
+use crate::tables::PAST_ANSWER;
+use crate::tables::PLANNED;
 use crate::tables::PTRS;
 use crate::tables::REPEATED;
+use crate::tables::REPEATED_ANSWER;
 use crate::tables::ROW_LIST;
 use crate::tables::ROW_STARTS;
 use crate::tables::ROWS;
 use crate::tables::SHORT;
+use crate::tables::SHORT_ANSWER;
 use crate::tables::STARTS;
 use crate::tables::T;
 use crate::tables::TWICE;
+use crate::tables::TWICE_ANSWER;
 use crate::tables::U;
 use crate::tables::UNUSED;
 use crate::tables::UNUSED_ROW;
@@ -74,7 +82,7 @@ pub(crate) fn case2() -> bool
 {
     let p = plan_hall(&ROWS);
     let answer = p.answer;
-    plan_numbers(answer).are(0, 2, 3, 3)
+    plan_numbers(answer).are(PLANNED)
         & same(&p.kept_starts, &STARTS)
         & same(&p.kept_lo, &KEPT_LO)
         & same(&p.kept_hi, &KEPT_HI)
@@ -93,12 +101,12 @@ pub(crate) fn case3() -> bool
     let d = operate(&DAMPING);
     let plain = w.answer;
     let damped = d.answer;
-    answer_numbers(plain).are(0, 0, 0, 0)
+    answer_numbers(plain).are(DONE)
         & same_floats(&w.t, &T)
         & same_floats(&w.u, &U)
         & same_floats(&w.rows, &LAST_ROWS)
         & same_floats(&w.out, &OUT)
-        & answer_numbers(damped).are(0, 0, 0, 0)
+        & answer_numbers(damped).are(DONE)
         & same_floats(&d.out, &DAMPED)
 }
 
@@ -121,7 +129,7 @@ fn case4_times() -> bool
         &mut rows,
         &mut out,
     );
-    answer_numbers(answer).are(0, 0, 0, 0) & same_floats(&out, &COUPLED)
+    answer_numbers(answer).are(DONE) & same_floats(&out, &COUPLED)
 }
 
 // Its transpose times v; the rows end as case 3's kept sweep leaves them.
@@ -143,7 +151,7 @@ fn case4_transpose() -> bool
         &mut rows,
         &mut out,
     );
-    answer_numbers(answer).are(0, 0, 0, 0) & same_floats(&rows, &FIRST_ROWS) & same_floats(&out, &T)
+    answer_numbers(answer).are(DONE) & same_floats(&rows, &FIRST_ROWS) & same_floats(&out, &T)
 }
 
 // Both coupling products.
@@ -163,7 +171,7 @@ pub(crate) fn case5() -> bool
     let answer = diag_jt_j(NROWS, &PTRS, &ROWS, &VALUES, &mut out);
     is_sum(one, DOT_0_1)
         & is_sum(two, DOT_0_2)
-        & answer_numbers(answer).are(0, 0, 0, 0)
+        & answer_numbers(answer).are(DONE)
         & same_floats(&out, &DIAGONAL)
 }
 
@@ -173,16 +181,16 @@ pub(crate) fn case6() -> bool
 {
     let p = plan_hall(&MOVED);
     let answer = p.answer;
-    plan_numbers(answer).are(10, 2, 1, 0)
+    plan_numbers(answer).are(CONNECTED)
 }
 
-// Whether the kept sweep along an order is refused at this place.
-fn refused_at(order: &[u32], place: usize) -> bool
-    ensures { λ r. ⌜ r ≡ tells (numbersOf (sweptAlong (now (order .entry)) .told)) 14 1 place 0 ⌝ }
+// Whether the kept sweep along an order answers as expected.
+fn sweep_answers(order: &[u32], expected: Numbers) -> bool
+    ensures { λ r. ⌜ r ≡ tells (numbersOf (sweptAlong (now (order .entry)) .told)) expected ⌝ }
 {
     let s = sweep_kept(order);
     let answer = s.answer;
-    answer_numbers(answer).are(14, 1, place, 0)
+    answer_numbers(answer).are(expected)
 }
 
 // The kept sweep along four orders: the first does every span, the others are refused at a place.
@@ -191,16 +199,16 @@ pub(crate) fn case7() -> bool
 {
     let s = sweep_kept(&ORDER);
     let answer = s.answer;
-    answer_numbers(answer).are(0, 0, 0, 0)
+    answer_numbers(answer).are(DONE)
         & same_floats(&s.rows, &FIRST_ROWS)
-        & refused_at(&TWICE, 1)
-        & refused_at(&SHORT, 2)
-        & refused_at(&PAST, 0)
+        & sweep_answers(&TWICE, TWICE_ANSWER)
+        & sweep_answers(&SHORT, SHORT_ANSWER)
+        & sweep_answers(&PAST, PAST_ANSWER)
 }
 
 // A row twice in column 0: its entry 2.
 pub(crate) fn case8() -> bool
     ensures { λ r. ⌜ r ≡ true ⌝ }
 {
-    answer_numbers(check_columns(NROWS, &PTRS, &REPEATED, &VALUES)).are(3, 2, 0, 2)
+    answer_numbers(check_columns(NROWS, &PTRS, &REPEATED, &VALUES)).are(REPEATED_ANSWER)
 }

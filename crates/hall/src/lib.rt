@@ -3,7 +3,7 @@
 mod calls;
 mod cases;
 mod same;
-mod tables;
+pub mod tables;
 
 use cases::case1;
 use cases::case2;

@@ -74,14 +74,14 @@ pub struct Numbers {
 }
 
 impl Numbers {
-    // Whether they are these.
-    pub(crate) fn are(self, number: u32, count: usize, first: usize, second: usize) -> bool
-        ensures { λ r. ⌜ r ≡ tells self number count first second ⌝ }
+    // Whether they are the expected ones.
+    pub(crate) fn are(self, expected: Numbers) -> bool
+        ensures { λ r. ⌜ r ≡ tells self expected ⌝ }
     {
-        (self.number == number)
-            & (self.count == count)
-            & (self.first == first)
-            & (self.second == second)
+        (self.number == expected.number)
+            & (self.count == expected.count)
+            & (self.first == expected.first)
+            & (self.second == expected.second)
     }
 }
 

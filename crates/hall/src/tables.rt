@@ -1,5 +1,6 @@
 // The hall's tables, and document 01's figures of its cases.
-use plan::owner::Owner;
+use crate::same::Numbers;
+use blocks::owner::Owner;
 
 // Five rows, and three columns with eight entries.
 pub const NROWS: usize = 5;
@@ -16,6 +17,14 @@ pub const KEPT: [u32; 2] = [0, 1];
 pub const ELIMS: [u32; 4] = [1, 1, 2, 1];
 
 pub const INVERSES: [f64; 2] = [0.5, 0.25];
+
+// What a call answers that is done and has no values to give.
+pub const DONE: Numbers = Numbers {
+    number: 0,
+    count: 0,
+    first: 0,
+    second: 0,
+};
 
 // Case 1: each row's owner, each eliminated block's rows, and the eliminated blocks that the kept one sees.
 pub const OWNERS: [u32; 5] = [0, 0, Owner::NONE, 1, 1];
@@ -44,6 +53,14 @@ pub const ELIMS_LO: [u32; 3] = [4, 6, 7];
 pub const ELIMS_HI: [u32; 3] = [6, 7, 8];
 
 pub const ELIMS_LOCAL: [u32; 3] = [0, 1, 1];
+
+// Case 2: planning is done, with three spans of either side.
+pub const PLANNED: Numbers = Numbers {
+    number: 0,
+    count: 2,
+    first: 3,
+    second: 3,
+};
 
 // Case 3: v, the rows after the kept sweep, t, u, the rows at the end, and the result without damping and with.
 pub const V: [f64; 1] = [2.0];
@@ -77,6 +94,14 @@ pub const DIAGONAL: [f64; 3] = [30.0, 2.0, 5.0];
 // Case 6: column 2 moved to rows 1 and 4.
 pub const MOVED: [u32; 8] = [0, 1, 3, 4, 0, 1, 1, 4];
 
+// Case 6: refusal 10, blocks 1 and 0.
+pub const CONNECTED: Numbers = Numbers {
+    number: 10,
+    count: 2,
+    first: 1,
+    second: 0,
+};
+
 // Case 7: an order that does every span, and three that are refused.
 pub const ORDER: [u32; 3] = [2, 0, 1];
 
@@ -86,8 +111,38 @@ pub const SHORT: [u32; 2] = [0, 1];
 
 pub const PAST: [u32; 1] = [3];
 
+// Case 7: refusal 14 at places 1, 2 and 0.
+pub const TWICE_ANSWER: Numbers = Numbers {
+    number: 14,
+    count: 1,
+    first: 1,
+    second: 0,
+};
+
+pub const SHORT_ANSWER: Numbers = Numbers {
+    number: 14,
+    count: 1,
+    first: 2,
+    second: 0,
+};
+
+pub const PAST_ANSWER: Numbers = Numbers {
+    number: 14,
+    count: 1,
+    first: 0,
+    second: 0,
+};
+
 // Case 8: column 0 with row 1 twice.
 pub const REPEATED: [u32; 8] = [0, 1, 1, 4, 0, 1, 3, 4];
+
+// Case 8: refusal 3, column 0 and entry 2.
+pub const REPEATED_ANSWER: Numbers = Numbers {
+    number: 3,
+    count: 2,
+    first: 0,
+    second: 2,
+};
 
 // What the buffers hold before a call: no figure of the tables.
 pub const UNUSED: u32 = 7;

@@ -20,6 +20,7 @@ use Rattle.columns.specs.Unchecked.{ColumnThere}
 use Rattle.columns.proofs.RefusalLaws.{number-some}
 use Rattle.blocks.specs.Sides.{blockCount, firstOf, dofOf}
 use Rattle.blocks.specs.Claims.{mark}
+use Rattle.blocks.proofs.MarkLaws.{is-mark, no-mark}
 use Rattle.plan.specs.Owners.{Entry, Owned, entryAt, columnEntries, blockEntries}
 use Rattle.plan.specs.OwnerWalk.{owned, claimOn, claimed, RowIn, RowsIn, ColumnIn, BlockIn, SideIn}
 
@@ -109,6 +110,8 @@ block-in ptrs rows side n m count b f e c h = rw e (f .each b (rw c at h))
 
 pub ruleset claiming = (
   needs,
+  is-mark,
+  no-mark,
   claim-free,
   claim-own,
   claim-held,

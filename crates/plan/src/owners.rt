@@ -1,7 +1,7 @@
 // Which eliminated block owns each row. A row that two of them have entries in would couple their inverses, so the plan is refused at the
 // first entry whose row an earlier block holds.
-use crate::owner::Owner;
 use blocks::check::mark_map;
+use blocks::owner::Owner;
 use columns::refusal::Answer;
 use columns::refusal::Refusal;
 use columns::unchecked::end_place;
@@ -22,17 +22,17 @@ fn claim_entry(rows: &[u32], b: u32, p: usize, owners: &mut [u32]) -> Answer
     ensures { λ r. ⌜ record { told = told r; owners = now (owners .exit) } ≡ claimed (now (owners .entry)) (entryAt (now (rows .entry)) b p) ⌝ }
 {
     let r = wide(rows[p]);
-    let o = owners[r];
-    if o == Owner::NONE {
+    let o = Owner { block: owners[r] };
+    if o.is_none() {
         owners[r] = b;
         return Answer::Done;
     }
-    if o == b {
+    if o.block == b {
         return Answer::Done;
     }
     Answer::Refused(Refusal::Connected {
         now: wide(b),
-        earlier: wide(o),
+        earlier: wide(o.block),
     })
 }
 

@@ -1,7 +1,6 @@
--- Worked cases, computed from the definitions: the built-in hall's coupling products, its block inverses times 6, 20, and its update. The map is
--- lent with four places, which hold 7, and each result with its own length. Assumes nothing.
+-- Worked cases, computed from the definitions, of two calls that no case of the built-in hall makes: on its columns, block inverses times 6, 20, and an
+-- update. The map is lent with four places, which hold 7, and each result with its own length. Assumes nothing.
 use mathlib.Core.Path.{_≡_, refl}
-use mathlib.Core.Bool.{true, false}
 use mathlib.Core.List.{List, [], _∷_}
 use Prim.Native.Nat.{ℕ}
 use lib.IntN.{pos}
@@ -13,13 +12,12 @@ use Rattle.ground.specs.Fold.{folded}
 use Rattle.columns.specs.Refusals.{done, onPass}
 use Rattle.columns.specs.Lengths.{pairBad, pairsTold}
 use Rattle.columns.specs.Columns.{Columns, columnsOf, firstIn, endIn, tooBig, falls, badShape, rowFalls, rowBad, columnBad, badRow, checked}
-use Rattle.columns.specs.Sums.{addTerm, joined, landed}
-use Rattle.columns.specs.JacobianOps.{entryTerm, landing, landings}
+use Rattle.columns.specs.Sums.{addTerm}
 use Rattle.blocks.specs.Sides.{blockColumns, offsetOf}
 use Rattle.blocks.specs.Claims.{tooMany, isOdd, listsTold, emptySide, earlyTold, blockClaims, placeOf, claimBad, walkTold, gapTold, blocksTold, mapLeft}
 use Rattle.blocks.specs.Access.{squareOf, squaresBefore, entryPlace}
-use Rattle.products.specs.SideSums.{sideTerms, sideGather, inverseTerm, inverseEntry, inverseBlock}
-use Rattle.products.specs.Couplings.{lentTold, applyEliminatedInverse, coupling, updateAt, combineUpdates}
+use Rattle.products.specs.SideSums.{inverseTerm, inverseEntry, inverseBlock}
+use Rattle.products.specs.Couplings.{lentTold, applyEliminatedInverse, updateAt, combineUpdates}
 
 abbrev f : ℕ → Float
 f n = ofInt binary64 (pos n)
@@ -36,16 +34,6 @@ elims = 1 ∷ 1 ∷ 2 ∷ 1 ∷ []
 -- 0.5 and 0.25
 abbrev inverses : List Float
 inverses = ofBits binary64 0x3FE0_0000_0000_0000 ∷ ofBits binary64 0x3FD0_0000_0000_0000 ∷ []
-
-pub hall-coupling : coupling true hall kept elims (replicate 4 7) (f 1 ∷ f 2 ∷ []) (replicate 5 (f 7)) (replicate 1 (f 7))
-    ≡ record { told = done; map = 0 ∷ 1 ∷ 2 ∷ 7 ∷ []; rows = f 1 ∷ f 1 ∷ f 0 ∷ f 4 ∷ f 2 ∷ []; out = f 23 ∷ [] }
-unfolding ofInt ofBits add mul eq firstN first gatherN gather folded onPass pairBad pairsTold firstIn endIn tooBig falls badShape rowFalls rowBad columnBad badRow checked addTerm joined landed entryTerm landing landings blockColumns offsetOf tooMany isOdd listsTold emptySide earlyTold blockClaims placeOf claimBad walkTold gapTold blocksTold mapLeft sideTerms sideGather lentTold coupling
-hall-coupling = refl
-
-pub hall-transpose : coupling false hall kept elims (replicate 4 7) (f 2 ∷ []) (replicate 5 (f 7)) (replicate 2 (f 7))
-    ≡ record { told = done; map = 0 ∷ 1 ∷ 2 ∷ 7 ∷ []; rows = f 2 ∷ f 4 ∷ f 0 ∷ f 6 ∷ f 8 ∷ []; out = f 6 ∷ f 20 ∷ [] }
-unfolding ofInt ofBits add mul eq firstN first gatherN gather folded onPass pairBad pairsTold firstIn endIn tooBig falls badShape rowFalls rowBad columnBad badRow checked addTerm joined landed entryTerm landing landings blockColumns offsetOf tooMany isOdd listsTold emptySide earlyTold blockClaims placeOf claimBad walkTold gapTold blocksTold mapLeft sideTerms sideGather lentTold coupling
-hall-transpose = refl
 
 pub hall-inverse : applyEliminatedInverse hall kept elims (replicate 4 7) (f 6 ∷ f 20 ∷ []) inverses (replicate 2 (f 7))
     ≡ record { told = done; map = 0 ∷ 1 ∷ 2 ∷ 7 ∷ []; out = f 3 ∷ f 5 ∷ [] }

@@ -1,7 +1,8 @@
 -- `hall::cases::case2` meets its contract. Assumes nothing.
-use mathlib.Core.Path.{refl, ap, _∙_}
-use mathlib.Core.List.{[]}
+use mathlib.Core.Path.{ap, _∙_}
+use mathlib.Core.List.{[], _∷_}
 use lib.ListN.{replicate}
+use Rattle.columns.specs.Refusals.{tell}
 use Rattle.plan.specs.Plan.{Outcome}
 use Rattle.hall.specs.Hall.{keptLists, elimsLists}
 use Rattle.hall.proofs.HallTable.{hall-table}
@@ -21,7 +22,7 @@ returns c =
     let b35 = b30 .before .before .before .before .before in
     let b40 = b35 .before .before .before .before .before in
     let e = b40 .before .before .plan-hall .ensures ∙ hall-table .plan in
-    both (both (both (both (both (both (both (both (numbers-held 0 2 3 3 (b40 .are .ensures) (b40 .before .plan-numbers .ensures) (ap (λ (o : Outcome). o .told) e) refl)
+    both (both (both (both (both (both (both (both (numbers-held (tell 0 (3 ∷ 3 ∷ [])) (b40 .are .ensures) (b40 .before .plan-numbers .ensures) (ap (λ (o : Outcome). o .told) e))
     (list-held (keptLists .starts) [] (b35 .same .ensures) (ap (λ (o : Outcome). o .left .kept .starts) e)))
     (list-held (keptLists .lo) (replicate 5 7) (b30 .same2 .ensures) (ap (λ (o : Outcome). o .left .kept .lo) e)))
     (list-held (keptLists .hi) (replicate 5 7) (b25 .same3 .ensures) (ap (λ (o : Outcome). o .left .kept .hi) e)))

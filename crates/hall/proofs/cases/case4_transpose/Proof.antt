@@ -2,6 +2,7 @@
 use mathlib.Core.Path.{refl, ap, _∙_}
 use lib.Ieee.{ofInt, ofBits, eq, div}
 use Rattle.ground.specs.First.{firstN, first}
+use Rattle.columns.specs.Refusals.{done}
 use Rattle.products.specs.Couplings.{Coupled}
 use Rattle.hall.specs.Hall.{firstRows, t}
 use Rattle.hall.specs.Same.{sameFloat, floatsDiffer, floatsBegin}
@@ -17,7 +18,7 @@ returns c =
     let b3 = c .before .before .before in
     let b6 = b3 .before .before .before in
     let e = b6 .before .before .before .before .before .coupling-transpose-times .ensures ∙ hall-table .transpose in
-    both (both (numbers-held 0 0 0 0 (b6 .are .ensures) (b6 .before .answer-numbers .ensures) (ap (λ (o : Coupled). o .told) e) refl)
+    both (both (numbers-held done (b6 .are .ensures) (b6 .before .answer-numbers .ensures) (ap (λ (o : Coupled). o .told) e))
     (floats-held firstRows (b3 .same-floats .ensures) (ap (λ (o : Coupled). o .rows) e) refl))
     (floats-held t (c .same-floats2 .ensures) (ap (λ (o : Coupled). o .out) e) refl)
 

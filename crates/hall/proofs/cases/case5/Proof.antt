@@ -3,6 +3,7 @@ use mathlib.Core.Path.{refl, ap, _∙_}
 use mathlib.Core.List.{[], _∷_}
 use lib.Ieee.{ofInt, ofBits, eq, div}
 use Rattle.ground.specs.First.{firstN, first}
+use Rattle.columns.specs.Refusals.{done}
 use Rattle.columns.specs.JacobianOps.{Dotted, Left}
 use Rattle.hall.specs.Hall.{f}
 use Rattle.hall.specs.Same.{sameFloat, floatsDiffer, floatsBegin}
@@ -24,7 +25,7 @@ returns c =
     let e = b8 .diag-jt-j .ensures ∙ hall-table .diagonal in
     both (both (both (sum-held (f 3) (b5 .before .is-sum .ensures) (ap (λ (o : Dotted). o .sums) one) refl)
     (sum-held (f 10) (b5 .is-sum2 .ensures) (ap (λ (o : Dotted). o .sums) two) refl))
-    (numbers-held 0 0 0 0 (b3 .are .ensures) (b3 .before .answer-numbers .ensures) (ap (λ (o : Left). o .told) e) refl))
+    (numbers-held done (b3 .are .ensures) (b3 .before .answer-numbers .ensures) (ap (λ (o : Left). o .told) e)))
     (floats-held (f 30 ∷ f 2 ∷ f 5 ∷ []) (c .same-floats .ensures) (ap (λ (o : Left). o .out) e) refl)
 
 pub case5-spec : {M : Type 1} → statement M

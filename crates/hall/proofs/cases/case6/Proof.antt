@@ -1,5 +1,7 @@
 -- `hall::cases::case6` meets its contract. Assumes nothing.
-use mathlib.Core.Path.{refl, ap, _∙_}
+use mathlib.Core.Path.{ap, _∙_}
+use mathlib.Core.List.{[], _∷_}
+use Rattle.columns.specs.Refusals.{tell}
 use Rattle.plan.specs.Plan.{Outcome}
 use Rattle.hall.proofs.HallTable.{hall-table}
 use Rattle.hall.proofs.CaseRules.{numbers-held}
@@ -9,7 +11,7 @@ use Rattle.hall.proofs.cases.case6.Tie as tie
 
 returns : tie.Need-returns
 returns c =
-    numbers-held 10 2 1 0 (c .are .ensures) (c .before .plan-numbers .ensures) (ap (λ (o : Outcome). o .told) (c .before .before .plan-hall .ensures ∙ hall-table .connected)) refl
+    numbers-held (tell 10 (1 ∷ 0 ∷ [])) (c .are .ensures) (c .before .plan-numbers .ensures) (ap (λ (o : Outcome). o .told) (c .before .before .plan-hall .ensures ∙ hall-table .connected))
 
 pub case6-spec : {M : Type 1} → statement M
 case6-spec =

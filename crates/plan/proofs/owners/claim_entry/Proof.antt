@@ -7,5 +7,5 @@ pub claim-entry-spec : {M : Type 1} → statement M
 claim-entry-spec =
     tie.close (tie.spec
     (λ c. search claiming) (λ c. search claiming) (λ c κs. search claiming) (λ c. search claiming) (λ c. search claiming)
-    (λ c. search claiming) (λ c. search claiming) (λ c. search claiming) (λ c. search claiming) (λ c. search claiming)
-    (λ c κs. search claiming) (λ c κs. search claiming) (λ c. search claiming))
+    (λ c κs. search claiming) (λ c. search claiming) (λ c. search claiming) (λ c. search claiming) (λ c. search claiming)
+    (λ c. search claiming) (λ c κs. search claiming) (λ c κs. search claiming) (λ c. search claiming))
