@@ -9,6 +9,6 @@ if ! command -v rustc > /dev/null; then
 fi
 dir=$(mktemp -d)
 trap 'rm -r "$dir"' EXIT
-CARGO_MANIFEST_DIR=$PWD/host rustc --edition 2021 --test host/tests/signatures.rs -o "$dir/signatures" 2> "$dir/log" || { cat "$dir/log"; exit 1; }
-CARGO_MANIFEST_DIR=$PWD/host "$dir/signatures" > "$dir/log" || { cat "$dir/log"; exit 1; }
+CARGO_MANIFEST_DIR=$PWD/host/pivotfern rustc --edition 2021 --test host/pivotfern/tests/signatures.rs -o "$dir/signatures" 2> "$dir/log" || { cat "$dir/log"; exit 1; }
+CARGO_MANIFEST_DIR=$PWD/host/pivotfern "$dir/signatures" > "$dir/log" || { cat "$dir/log"; exit 1; }
 echo "signatures: the declarations of the host agree with the exports"
