@@ -1,6 +1,6 @@
 #!/usr/bin/env bash
-# The host's test: writes the archives where they are absent, then runs the Rust tests, the example, the wrapper with libedge.a alone and
-# the tool. It passes if its last line is 'host ok'.
+# The host's test: writes the archives where they are absent, then runs the Rust tests, the example, the wrapper with libedge.a alone, the C
+# program and the tool. It passes if its last line is 'host ok'.
 set -euo pipefail
 here=$(cd "$(dirname "${BASH_SOURCE[0]}")" && pwd -P)
 for name in edge edge_compare; do
@@ -21,6 +21,14 @@ if [ "$(uname -m)" = x86_64 ]; then
     PIVOTFERN_LIB=$dir "$here/build.sh" cargo test --quiet --offline -p pivotfern --test hall
 else
     echo "host: build.sh links both archives here, the wrapper with libedge.a alone is not tried"
+fi
+
+# the expected line is document 01's case 3
+if [ "$(uname -m)" = x86_64 ] && command -v cc >/dev/null; then
+    cc -std=c99 -pedantic-errors -Wall -Wextra -o "$dir/hall" "$here/c/hall.c" "$lib/libedge.a"
+    [ "$("$dir/hall")" = "out 1" ]
+else
+    echo "host: no C compiler for x86-64 at hand, c/hall.c is not tried"
 fi
 
 # the tool itself: what it writes, and its exit status for a file that is wrong
