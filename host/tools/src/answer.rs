@@ -20,6 +20,7 @@ pub struct Answer {
 
 impl Answer {
     /// Success, with values.
+    #[must_use]
     pub fn done(values: &[u64]) -> Answer {
         Answer {
             number: 0,
@@ -30,6 +31,7 @@ impl Answer {
     }
 
     /// Success, with a float.
+    #[must_use]
     pub fn result(result: f64) -> Answer {
         Answer {
             result: Some(result),
@@ -38,6 +40,7 @@ impl Answer {
     }
 
     /// A block's part of the values. An empty part is written with start 0.
+    #[must_use]
     pub fn part(start: u64, part: &[f64]) -> Answer {
         let start = if part.is_empty() { 0 } else { start };
         Answer {
@@ -47,6 +50,7 @@ impl Answer {
     }
 
     /// Where a column stands: 0 nowhere; 1, local; 2, block, offset.
+    #[must_use]
     pub fn slot(slot: Option<Slot>) -> Answer {
         match slot {
             None => Answer::done(&[0]),
@@ -56,6 +60,7 @@ impl Answer {
     }
 
     /// A refusal.
+    #[must_use]
     pub fn refused(refusal: Refusal) -> Answer {
         Answer {
             number: refusal.number(),
@@ -64,6 +69,10 @@ impl Answer {
     }
 
     /// Writes the answer down, with the buffers of the call that was run.
+    ///
+    /// # Errors
+    ///
+    /// What `out` says where it cannot be written to.
     pub fn write(&self, call: &Call, out: &mut dyn Write) -> io::Result<()> {
         write!(out, "answer {}", self.number)?;
         for value in &self.values {
@@ -81,6 +90,7 @@ impl Answer {
     }
 
     /// The same as text, for programs that compare.
+    #[must_use]
     pub fn text(&self, call: &Call) -> String {
         let mut out = Vec::new();
         self.write(call, &mut out).expect("memory takes what is written");
@@ -97,7 +107,11 @@ fn after(told: Told, success: Answer) -> Result<Answer, Error> {
     }
 }
 
-/// Runs a call on its own buffers, as they are. The error is an answer that document 01 does not have.
+/// Runs a call on its own buffers, as they are. A refusal is an answer too.
+///
+/// # Errors
+///
+/// An answer that document 01 does not have.
 #[rustfmt::skip]
 pub fn run(call: &mut Call) -> Result<Answer, Error> {
     let done = Answer::done(&[]);
@@ -194,6 +208,10 @@ pub enum Stop {
 }
 
 /// Answers every call of a case file, one after the other. What was answered before it stops stays written.
+///
+/// # Errors
+///
+/// Why it stopped: the file is wrong, the archive is, or the answers cannot be written.
 pub fn answer_cases(input: impl BufRead, out: &mut dyn Write) -> Result<(), Stop> {
     let mut lines = Lines::new(input);
     while let Some(mut call) = Call::read(&mut lines).map_err(Stop::Case)? {

@@ -40,6 +40,7 @@ pub struct Buffer<T> {
 
 impl<T: Guarded> Buffer<T> {
     /// Whether every guard still holds its pattern.
+    #[must_use]
     pub fn guards_hold(&self) -> bool {
         let end = self.whole.len() - GUARDS;
         (0..GUARDS).all(|i| self.whole[i].same_bits(T::pattern(i)) && self.whole[end + i].same_bits(T::pattern(GUARDS + i)))

@@ -279,6 +279,7 @@ pub struct OwnColumns {
 
 impl OwnColumns {
     /// The same, lent.
+    #[must_use]
     pub fn lend(&self) -> Columns<'_> {
         Columns {
             nrows: self.nrows as usize,
@@ -323,6 +324,7 @@ pub struct OwnSides {
 
 impl OwnSides {
     /// The same, lent.
+    #[must_use]
     pub fn lend(&self) -> Sides<'_> {
         Sides {
             kept: &self.kept,
@@ -402,6 +404,10 @@ macro_rules! calls {
             }
 
             /// Writes the buffers that the call may change, as they are now.
+            ///
+            /// # Errors
+            ///
+            /// What `out` says where it cannot be written to.
             pub fn write_buffers(&self, out: &mut dyn Write) -> io::Result<()> {
                 match self {
                     $(Call::$variant { $($field),* } => {
@@ -493,6 +499,10 @@ calls! {
 
 impl Call {
     /// The next call of a file, or `None` at its end.
+    ///
+    /// # Errors
+    ///
+    /// What breaks the form, with its line; or why the file cannot be read.
     pub fn read<R: BufRead>(lines: &mut Lines<R>) -> Result<Option<Call>, CaseError> {
         let Some(line) = lines.next()? else {
             return Ok(None);
@@ -509,6 +519,10 @@ impl Call {
     }
 
     /// Writes the call down as a case.
+    ///
+    /// # Errors
+    ///
+    /// What `out` says where it cannot be written to.
     pub fn write(&self, out: &mut dyn Write) -> io::Result<()> {
         writeln!(out, "call {}", self.name())?;
         self.write_arguments(out)?;

@@ -6,7 +6,7 @@
 //! | [`model`], [`compare`] | document 01 written down plainly, and the comparison of it and of the original with the port |
 
 #![forbid(unsafe_code)]
-#![warn(missing_docs)]
+#![warn(missing_docs, clippy::missing_errors_doc, clippy::must_use_candidate)]
 
 pub mod answer;
 pub mod buffer;

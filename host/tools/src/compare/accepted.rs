@@ -101,6 +101,10 @@ fn float(word: &str) -> Option<f64> {
 }
 
 /// Runs so many cases of the original's program at `oracle`.
+///
+/// # Errors
+///
+/// The program cannot be run, fails, or writes other than the cases that were asked for.
 pub fn accepted(oracle: &str, model: &Model, seed: u64, count: u64) -> io::Result<Tally> {
     let mut tally = Tally::default();
     let mut r = Random(seed);
@@ -127,6 +131,10 @@ pub fn accepted(oracle: &str, model: &Model, seed: u64, count: u64) -> io::Resul
 }
 
 /// Reads cases with the original's answers, runs each and compares. Gives how many there were; `count` is for the progress line.
+///
+/// # Errors
+///
+/// The input cannot be read, or a line of it does not parse.
 pub fn read_cases(input: impl BufRead, model: &Model, r: &mut Random, tally: &mut Tally, count: u64) -> io::Result<u64> {
     let mut case = Case::default();
     let mut read = 0;

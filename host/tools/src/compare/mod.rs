@@ -173,6 +173,7 @@ impl Tally {
     }
 
     /// The figures of one part, as lines.
+    #[must_use]
     pub fn report(&self, part: &str) -> String {
         let mut text = String::new();
         let _ = writeln!(
@@ -207,6 +208,7 @@ pub enum Kind {
 }
 
 /// The damaged case of this number.
+#[must_use]
 pub fn damaged_case(kind: Kind, seed: u64, number: u64) -> Call {
     let mut r = Random(Random(seed).bits() ^ number.wrapping_mul(0x2545_f491_4f6c_dd1d));
     let (size, damages): (Size, &[usize]) = match kind {
@@ -239,6 +241,7 @@ pub fn damaged_case(kind: Kind, seed: u64, number: u64) -> Call {
 }
 
 /// Compares port and model on so many damaged cases.
+#[must_use]
 pub fn damaged(kind: Kind, model: &Model, seed: u64, count: u64) -> Tally {
     let mut tally = Tally::default();
     for number in 0..count {

@@ -142,21 +142,25 @@ impl Problem {
     }
 
     /// How many columns there are.
+    #[must_use]
     pub fn count(&self) -> usize {
         self.columns.ptrs.len() - 1
     }
 
     /// The sum of a list's dofs.
+    #[must_use]
     pub fn dof(list: &[u32]) -> usize {
         list.chunks_exact(2).map(|pair| pair[1] as usize).sum()
     }
 
     /// The sum of the squares of the eliminated dofs.
+    #[must_use]
     pub fn squares(&self) -> usize {
         self.sides.eliminated.chunks_exact(2).map(|pair| (pair[1] * pair[1]) as usize).sum()
     }
 
     /// How many chunks the rows make.
+    #[must_use]
     pub fn chunks(&self) -> usize {
         self.columns.nrows.div_ceil(self.chunk) as usize
     }
