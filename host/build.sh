@@ -1,5 +1,5 @@
 #!/bin/sh
-# Builds and runs this package for x86-64, which the archives are for, on x86-64 and on aarch64.
+# Builds and runs the packages here for x86-64, which the archives are for, on x86-64 and on aarch64.
 #   build.sh setup                  on aarch64, once: fetches Debian's rustc-web into $HB_HOME (no other verb needs it first)
 #   build.sh rustc ARGS...          rustc for x86-64
 #   build.sh cargo VERB ARGS...     cargo for x86-64, in this folder, as  build.sh cargo test --offline
@@ -90,7 +90,8 @@ CONF
     chmod +x "$HB_HOME/cc"
 }
 
-# build.rs would have to be linked for aarch64, which may have no linker: this finds the archives in its place, by the same rule
+# pivotfern/build.rs would have to be linked for aarch64, which may have no linker: this finds the archives in its place, in the same folder. It
+# links both always, since it is not told whether the feature `compare` is on.
 archives() {
     lib=$(cd "$here" && cd "${PIVOTFERN_LIB:-../target/staticlib}" 2>/dev/null && pwd -P) || lib=
     for n in edge edge_compare; do
