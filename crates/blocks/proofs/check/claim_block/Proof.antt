@@ -8,6 +8,7 @@ use Rattle.blocks.specs.Claims.{blockClaims}
 use Rattle.blocks.specs.Walk.{through, walked, Room}
 use Rattle.blocks.proofs.WalkRules.{columnAt, block-enters, block-out, column-out, column-twice, column-free, room-step}
 use borrow.Author.Needs.{needs}
+use native.Mathlib.Omega.{arith}
 use Rattle.blocks.proofs.check.claim_block.Statement.{statement}
 use Rattle.blocks.proofs.check.claim_block.Tie as tie
 
@@ -83,7 +84,7 @@ returns-3 c =
     let b2 = c .before .before in
     let b3 = b2 .before in
     let b4 = b3 .before in
-    column-twice _ _ _ _ _ _ _ (b3 .loop-test .taken) (b4 .loop .inv .0) (b2 .if2 .left) (c .if3 .taken)
+    column-twice _ _ _ _ _ _ _ (b3 .loop-test .taken) (b4 .loop .inv .0) (b2 .if2 .left) (λ e. omega (arith, e, c .if3 .taken))
 
 mul-map : tie.Need-mul-map Inv-loop μ-loop
 mul-map c = search needs
@@ -102,7 +103,7 @@ loop-less c = search needs
 
 loop-again : tie.Need-loop-again Inv-loop μ-loop
 loop-again c = let l = c .before .before .before .before .loop in
-    (column-free _ _ _ _ _ _ _ (c .before .before .before .loop-test .taken) (l .inv .0) (c .before .before .if2 .left) (c .if3 .left), room-step _ (l .inv .1) (c .before .before .if2 .left) (c .if3 .left), search needs, search needs, simp length-set (l .inv .4))
+    (column-free _ _ _ _ _ _ _ (c .before .before .before .loop-test .taken) (l .inv .0) (c .before .before .if2 .left) (search needs), room-step _ (l .inv .1) (c .before .before .if2 .left) (search needs), search needs, search needs, simp length-set (l .inv .4))
 
 same-length-3 : tie.Need-same-length-3 Inv-loop μ-loop
 same-length-3 c = search needs
