@@ -74,11 +74,16 @@ unclaimed n cs = first (λ c. leb (length cs) (placeOf cs c)) 0 n
 unfoldable pub gapTold : ℕ → List ℕ → Told
 gapTold n cs = cond (ltb (unclaimed n cs) n) (tell 9 (unclaimed n cs ∷ [])) done
 
+-- 7 to 9, of claims cs on n columns
+abbrev pub lateTold : ℕ → List ℕ → Told
+lateTold n cs = orElse (walkTold n cs) (gapTold n cs)
+
+abbrev pub lateBlocks : Columns → List ℕ → List ℕ → Told
+lateBlocks m kept elims = lateTold (columnCount m) (claims (columnCount m) kept elims)
+
 -- 1 to 9
 unfoldable pub blocksTold : Columns → List ℕ → List ℕ → List ℕ → Told
-blocksTold m kept elims map =
-    orElse (earlyTold m kept elims map)
-    (orElse (walkTold (columnCount m) (claims (columnCount m) kept elims)) (gapTold (columnCount m) (claims (columnCount m) kept elims)))
+blocksTold m kept elims map = orElse (earlyTold m kept elims map) (lateBlocks m kept elims)
 
 -- ---- the column map
 

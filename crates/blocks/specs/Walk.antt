@@ -8,10 +8,10 @@ use lib.Dec.{eqb, leb}
 use lib.ListN.{length, getD, take, drop, set, replicate}
 use Rattle.ground.specs.Fold.{folded}
 use Rattle.ground.specs.Gather.{listOf}
-use Rattle.columns.specs.Refusals.{Told, tell, done, refused, Passes, onPass, orElse}
+use Rattle.columns.specs.Refusals.{Told, tell, done, refused, Passes, onPass}
 use Rattle.blocks.specs.declared.check.Walk.{Walk}
 use Rattle.blocks.specs.declared.check.Walk.the-variants.{Through, Stopped}
-use Rattle.blocks.specs.Claims.{mark, placeOf, walkTold, gapTold, Mapped}
+use Rattle.blocks.specs.Claims.{lateTold, mark, placeOf, Mapped}
 
 unfoldable pub isFree : List ℕ → ℕ → Bool
 isFree map c = eqb (getD map c 0) mark
@@ -67,9 +67,6 @@ pub record BlockWalks (size b n next : ℕ) (map : List ℕ) : Type 0 where
   pub room : Room n next map
 
 -- ---- the whole of 7 to 9
-
-abbrev pub lateTold : ℕ → List ℕ → Told
-lateTold n cs = orElse (walkTold n cs) (gapTold n cs)
 
 -- what trying the claims cs leaves: the answer, and the map m where it held m₀
 pub record Tried (n : ℕ) (cs m₀ : List ℕ) (t : Told) (m : List ℕ) : Type 0 where

@@ -21,7 +21,7 @@ use Rattle.columns.proofs.RefusalLaws.{number-some, pass-refused, pass-done}
 use Rattle.columns.proofs.CheckLaws.{passes-keeps}
 use Rattle.columns.proofs.CallLaws.{told-done, room-right}
 use Rattle.blocks.specs.Sides.{blockCount, cols, sideDof, sideOf}
-use Rattle.blocks.specs.Claims.{mark, marked, claims, placeOf, partsTold, Parted, Mapped}
+use Rattle.blocks.specs.Claims.{lateBlocks, mark, marked, claims, placeOf, partsTold, Parted, Mapped}
 use Rattle.blocks.specs.Walk.{Roomy, walkBlocks}
 use Rattle.blocks.proofs.CallRules.{parts-passes}
 use Rattle.blocks.proofs.PartLaws.{sides-few, walk-parted, parted-dofs}
@@ -34,7 +34,7 @@ use Rattle.plan.specs.RowLists.{ListsFit}
 use Rattle.plan.specs.VisibleWalk.{visibleWith, VisibleFits}
 use Rattle.plan.specs.Spans.{chunkTold, chunkCount, chunkSpans, sideSpans, Spread, spread, Spanned, spanned}
 use Rattle.plan.specs.SpanWalk.{Chunked, SpansFit}
-use Rattle.plan.specs.Plan.{Buffers, columnBlocks, roomOf, room, planEarly, planBlocks, planConnected, planTold, planOf, marks, lent, planLeft, planned}
+use Rattle.plan.specs.Plan.{Buffers, columnBlocks, roomOf, room, planEarly, planConnected, planTold, planOf, marks, lent, planLeft, planned}
 use Rattle.plan.specs.RoomCheck.{RoomFits}
 use Rattle.plan.specs.ColumnLists.{ColumnsFit, Counted, columnsListed, blocksListed}
 use Rattle.plan.proofs.ChunkLaws.{chunk-passes}
@@ -219,12 +219,12 @@ module _ (m : Columns) (kept elims : List ℕ) (len : ℕ) (b : Buffers) where
       pub plan-walk : (r : Refusal) (map′ : List ℕ) → record { told = refused r; map = map′ } ≡ walkBlocks n cs (b .map) → record { told = refused r; left = lent map′ (b .owners) b } ≡ planned m kept elims len b
       unfolding planned planTold planLeft walkBlocks
       plan-walk r map′ e =
-          let t : refused r ≡ planBlocks m kept elims = ap (λ (w : Mapped). w .told) e in
-          let q : map′ ≡ onPass (planBlocks m kept elims) (listOf (placeOf cs) n) (replicate n mark) ++ drop n (b .map) = ap (λ (w : Mapped). w .map) e in
+          let t : refused r ≡ lateBlocks m kept elims = ap (λ (w : Mapped). w .told) e in
+          let q : map′ ≡ onPass (lateBlocks m kept elims) (listOf (placeOf cs) n) (replicate n mark) ++ drop n (b .map) = ap (λ (w : Mapped). w .map) e in
           rw (early-done, q, ← t, pass-refused r (listOf (placeOf cs) n) (replicate n mark), pass-refused r _ (refused r), pass-refused r _ (lent (marks n (b .map)) (b .owners) b), pass-done done _ done refl, pass-done done _ b refl)
 
       module _ (map′ : List ℕ) (walk : record { told = done; map = map′ } ≡ walkBlocks n cs (b .map)) where
-        blocks-done : planBlocks m kept elims ≡ done
+        blocks-done : lateBlocks m kept elims ≡ done
         unfolding walkBlocks
         blocks-done = sym (ap (λ (w : Mapped). w .told) walk)
 

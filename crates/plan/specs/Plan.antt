@@ -7,7 +7,7 @@ use Rattle.columns.specs.Refusals.{Told, tell, refused, onPass, orElse}
 use Rattle.columns.specs.Lengths.{noRoom}
 use Rattle.columns.specs.Columns.{Columns, columnCount, entryCount}
 use Rattle.blocks.specs.Sides.{blockCount, dofOf, cols, sideDof}
-use Rattle.blocks.specs.Claims.{mark, claims, placeOf, partsTold, walkTold, gapTold}
+use Rattle.blocks.specs.Claims.{lateBlocks, mark, claims, placeOf, partsTold}
 use Rattle.plan.specs.declared.structure.Planned.{Planned}
 use Rattle.plan.specs.declared.structure.Planned.the-variants.{Done, Refused}
 use Rattle.plan.specs.Owners.{sideEntries, connectedTold, ownerList}
@@ -91,11 +91,6 @@ toldPlan (Refused r) = refused r
 abbrev pub planEarly : Columns → List ℕ → List ℕ → ℕ → Buffers → Told
 planEarly m kept elims len b = orElse (partsTold m kept elims (chunkTold len)) (noRoom (room m kept elims len b))
 
--- 7 to 9
-abbrev pub planBlocks : Columns → List ℕ → List ℕ → Told
-planBlocks m kept elims =
-    orElse (walkTold (columnCount m) (claims (columnCount m) kept elims)) (gapTold (columnCount m) (claims (columnCount m) kept elims))
-
 -- 10
 abbrev pub planConnected : Columns → List ℕ → Told
 planConnected m elims = connectedTold (sideEntries m elims)
@@ -103,7 +98,7 @@ planConnected m elims = connectedTold (sideEntries m elims)
 unfoldable pub planTold : Columns → List ℕ → List ℕ → ℕ → Buffers → Told
 planTold m kept elims len b =
     orElse (planEarly m kept elims len b)
-    (orElse (planBlocks m kept elims)
+    (orElse (lateBlocks m kept elims)
     (orElse (planConnected m elims)
     (tell 0 (length (sideSpans m kept len) ∷ length (sideSpans m elims len) ∷ []))))
 
@@ -149,7 +144,7 @@ lent map owners b = record {
 unfoldable pub planLeft : Columns → List ℕ → List ℕ → ℕ → Buffers → Buffers
 planLeft m kept elims len b =
     onPass (planEarly m kept elims len b)
-    (onPass (planBlocks m kept elims)
+    (onPass (lateBlocks m kept elims)
     (onPass (planConnected m elims) (planOf m kept elims len b) (lent (marks (columnCount m) (b .map)) (marks (m .nrows) (b .owners)) b))
     (lent (marks (columnCount m) (b .map)) (b .owners) b))
     b

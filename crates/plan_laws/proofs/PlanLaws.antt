@@ -15,12 +15,12 @@ use Rattle.columns.specs.Columns.{Columns, columnCount, Keeps}
 use Rattle.columns.proofs.RefusalLaws.{both-pass}
 use Rattle.columns.proofs.CheckLaws.{passes-keeps}
 use Rattle.columns.proofs.CallLaws.{room-done, room-right}
-use Rattle.blocks.specs.Claims.{partsTold, Parted}
+use Rattle.blocks.specs.Claims.{lateBlocks, partsTold, Parted}
 use Rattle.blocks.proofs.CallRules.{parts-passes}
 use Rattle.blocks.proofs.PartLaws.{parted-parts, parted-late, walk-parted}
 use Rattle.plan.specs.Owners.{sideEntries, firstClash, connectedTold, Connects}
 use Rattle.plan.specs.Spans.{chunkTold, sideSpans}
-use Rattle.plan.specs.Plan.{Buffers, room, planEarly, planBlocks, planConnected, planTold, planOf, planLeft}
+use Rattle.plan.specs.Plan.{Buffers, room, planEarly, planConnected, planTold, planOf, planLeft}
 use Rattle.plan_laws.proofs.ConnectedLaws.{told-connects, connects-told}
 use Rattle.plan.proofs.ChunkLaws.{chunk-passes}
 use Rattle.plan.proofs.OwnerCalls.{told-pass}
@@ -117,7 +117,7 @@ passes-sound m kept elims len b p =
     let c = chunk-passes (m .nrows) len (parts .3) (k .small .few-rows) in
     record {
       keeps = k;
-      parted = walk-parted m kept elims (parts .1) (parts .2) (both-pass (planBlocks m kept elims) _ (a .1) .0);
+      parted = walk-parted m kept elims (parts .1) (parts .2) (both-pass (lateBlocks m kept elims) _ (a .1) .0);
       some-len = c .some-len;
       few-len = c .few-len;
       roomy = room-right (room m kept elims len b) (e .1);

@@ -21,14 +21,14 @@ use Rattle.columns.specs.Sums.{zero₊, zero₋, sweptOn}
 use Rattle.columns.proofs.RefusalLaws.{or-refused, or-assoc, both-pass, passed, pass-refused, pass-done}
 use Rattle.columns.proofs.CallLaws.{lengths-right}
 use Rattle.blocks.specs.Sides.{sideDof, sideOf}
-use Rattle.blocks.specs.Claims.{marked, Mapped, BlocksKeep}
+use Rattle.blocks.specs.Claims.{lateBlocks, marked, Mapped, BlocksKeep}
 use Rattle.blocks.specs.BlockValues.{valueCount, Limited}
 use Rattle.blocks.proofs.ValueCalls.{limited-of}
 use Rattle.plan.specs.Spans.{chunkCount, Spread}
 use Rattle.plan.specs.SpanWalk.{Chunked}
 use Rattle.products.specs.SideSums.{sideGather, inverseTimes}
 use Rattle.products.specs.SideFits.{SideFits, DofsFit, InversesFit}
-use Rattle.products.specs.Orders.{planBad, badPlan, spanTerms, planTerms, earlyChunked, lateBlocks}
+use Rattle.products.specs.Orders.{planBad, badPlan, spanTerms, planTerms, earlyChunked}
 use Rattle.products.specs.OrderWalk.{entriesOnly, spansOnly, SpansFit}
 use Rattle.products.specs.PlanCheck.{Risen, rowsOnly}
 use Rattle.products.specs.SweepCheck.{chunkedLeft, checkChunked}

@@ -30,10 +30,11 @@ use Rattle.blocks.specs.Sides.{sideDof}
 use Rattle.plan.specs.Spans.{chunkCount, Spread}
 use Rattle.plan.specs.SpanWalk.{Chunked}
 use Rattle.products.specs.SideSums.{columnAt, sideGather}
-use Rattle.products.specs.Operator.{dampTerm, keptSum, keptSums, dampLength, planLengths, Sizes, operatorPairs}
+use Rattle.products.specs.Operator.{dampTerm, keptSum, keptSums, dampLength, Sizes, operatorPairs}
 use Rattle.products.specs.OperatorCalls.{operatorLent, dampAt, dampedOn, DampFits}
-use Rattle.products.specs.PlanCheck.{spansTold, PlanThere}
+use Rattle.products.specs.PlanCheck.{PlanThere}
 use Rattle.products.proofs.SweepRules.{small-end}
+use Rattle.products.specs.Orders.{planLengths, spansTold}
 
 -- ---- the damping's length
 

@@ -19,9 +19,9 @@ use Rattle.columns.specs.Unchecked.{RunThere}
 use Rattle.columns.proofs.CheckLaws.{or-false}
 use Rattle.blocks.proofs.LookupRules.{and-true}
 use Rattle.plan.specs.Spans.{inChunk, Spread}
-use Rattle.products.specs.Orders.{entryOut, spanBad, chunkBad, startsBad, planBad}
+use Rattle.products.specs.Orders.{spansTold, entryOut, spanBad, chunkBad, startsBad, planBad}
 use Rattle.products.specs.Side.{sideNumber}
-use Rattle.products.specs.PlanCheck.{rowsOnly, rowOut, endsOut, inColumn, narrowed, shapeOut, shapeOutAt, rowsOutAt, rowsStop, rowsStopAt, spanOut, spanOutAt, startsOut, spansTold, Risen, Window, SomeThere, FewThere, EntriesThere, StartsThere, SpansThere, ChunkThere, ChunksThere, PlanThere}
+use Rattle.products.specs.PlanCheck.{rowsOnly, rowOut, endsOut, inColumn, narrowed, shapeOut, shapeOutAt, rowsOutAt, rowsStop, rowsStopAt, spanOut, spanOutAt, Risen, Window, SomeThere, FewThere, EntriesThere, StartsThere, SpansThere, ChunkThere, ChunksThere, PlanThere}
 
 pub or-of : (b t u : Bool) → t ≡ u → (b || t) ≡ (b || u)
 or-of b t u e = rw e
@@ -406,8 +406,8 @@ chunk-at {c = c} h l = h .each c l
 -- ---- starts
 
 module _ (chunks : ℕ) (starts : List ℕ) (n : ℕ) where
-  pub starts-first : (getD starts 0 0 ≡ 0 → ⊥) → true ≡ startsOut chunks starts n
-  unfolding startsOut
+  pub starts-first : (getD starts 0 0 ≡ 0 → ⊥) → true ≡ startsBad chunks starts n
+  unfolding startsBad
   starts-first h = rw (ne-eqb (getD starts 0 0) 0 h)
 
   -- t is what the test of the pointers answered of the starts
@@ -415,12 +415,12 @@ module _ (chunks : ℕ) (starts : List ℕ) (n : ℕ) where
     falls-are : t ≡ some (falls starts) 0 chunks
     falls-are = let e : length starts - 1 ≡ chunks = omega (arith, there .there) in rw e at call
 
-    pub starts-fall : t ≡ true → true ≡ startsOut chunks starts n
-    unfolding startsOut
+    pub starts-fall : t ≡ true → true ≡ startsBad chunks starts n
+    unfolding startsBad
     starts-fall q = rw (eq-eqb (getD starts 0 0) 0 h, ← falls-are, q)
 
-    pub starts-end : (k : ℕ) → t ≡ false → k ≡ getD starts chunks 0 → not (eqb k n) ≡ startsOut chunks starts n
-    unfolding startsOut
+    pub starts-end : (k : ℕ) → t ≡ false → k ≡ getD starts chunks 0 → not (eqb k n) ≡ startsBad chunks starts n
+    unfolding startsBad
     starts-end k q p = rw (eq-eqb (getD starts 0 0) 0 h, ← falls-are, q, ← p)
 
 -- starts that rise from 0 to n without falling
@@ -429,8 +429,8 @@ pub record Rising (starts : List ℕ) (chunks n : ℕ) : Type 0 where
   pub rises : (c : ℕ) → c < chunks → getD starts c 0 ≤ getD starts (c + 1) 0
   pub ends : getD starts chunks 0 ≡ n
 
-pub starts-rise : (chunks : ℕ) (starts : List ℕ) (n : ℕ) → startsOut chunks starts n ≡ false → Rising starts chunks n
-unfolding startsOut falls
+pub starts-rise : (chunks : ℕ) (starts : List ℕ) (n : ℕ) → startsBad chunks starts n ≡ false → Rising starts chunks n
+unfolding startsBad falls
 starts-rise chunks starts n e =
     let a = or-false (not (eqb (getD starts 0 0) 0)) (some (falls starts) 0 chunks || not (eqb (getD starts chunks 0) n)) e in
     let b = or-false (some (falls starts) 0 chunks) (not (eqb (getD starts chunks 0) n)) (a .1) in
@@ -475,7 +475,7 @@ module _ (len chunks : ℕ) (starts : List ℕ) (nlo nhi nlocal : ℕ) (p : Plan
   pub plan-starts : StartsThere (length starts) chunks
   plan-starts = record { there = p .starts }
 
-  pub plan-chunks : (t : Bool) → t ≡ startsOut chunks starts nlo → t ≡ false → ChunksThere len chunks starts nlo nhi nlocal
+  pub plan-chunks : (t : Bool) → t ≡ startsBad chunks starts nlo → t ≡ false → ChunksThere len chunks starts nlo nhi nlocal
   plan-chunks t e q =
       let r = starts-rise chunks starts nlo (sym e ∙ q) in
       record {
@@ -490,18 +490,18 @@ module _ (len chunks : ℕ) (starts : List ℕ) (nlo nhi nlocal : ℕ) (p : Plan
             };
       }
 
-module _ (e : Bool) (m : Columns) (dof len chunks : ℕ) (s : Spread) (t : Bool) (call : t ≡ startsOut chunks (s .starts) (length (s .lo))) where
+module _ (e : Bool) (m : Columns) (dof len chunks : ℕ) (s : Spread) (t : Bool) (call : t ≡ startsBad chunks (s .starts) (length (s .lo))) where
   pub plan-falls : (n : ℕ) → t ≡ true → n ≡ sideNumber e → tell 13 (n ∷ []) ≡ spansTold e m dof len chunks s
-  unfolding spansTold planBad startsBad startsOut
+  unfolding planBad startsBad
   plan-falls n q p = rw (sym call ∙ q, p)
 
   module _ (q : t ≡ false) (u : Bool) (chunk : u ≡ some (chunkBad m dof len s) 0 chunks) where
     pub plan-out : (n : ℕ) → u ≡ true → n ≡ sideNumber e → tell 13 (n ∷ []) ≡ spansTold e m dof len chunks s
-    unfolding spansTold planBad startsBad startsOut
+    unfolding planBad startsBad
     plan-out n z p = rw (sym call ∙ q, ← chunk, z, p)
 
     pub plan-done : u ≡ false → done ≡ spansTold e m dof len chunks s
-    unfolding spansTold planBad startsBad startsOut
+    unfolding planBad startsBad
     plan-done z = rw (sym call ∙ q, ← chunk, z)
 
 pub ruleset planning = (

@@ -25,7 +25,7 @@ use Rattle.columns.specs.Columns.{Columns, columnCount}
 use Rattle.columns.specs.Sums.{zero₊, sweptOn}
 use Rattle.columns.proofs.RefusalLaws.{pass-refused, pass-done, passed, or-refused, or-done, or-assoc}
 use Rattle.blocks.specs.Sides.{sideOf}
-use Rattle.blocks.specs.Claims.{marked, Mapped}
+use Rattle.blocks.specs.Claims.{lateBlocks, marked, Mapped}
 use Rattle.plan.specs.Spans.{chunkCount, Spread}
 use Rattle.products.specs.Orders.{
   spanCount,
@@ -39,7 +39,6 @@ use Rattle.products.specs.Orders.{
   orderTerms,
   signOf,
   earlyChunked,
-  lateBlocks,
   sweepLengths,
   sweepTold,
   Swept,

@@ -25,7 +25,7 @@ use Rattle.columns.proofs.RefusalLaws.{pass-refused, pass-done, both-pass, pass
 use Rattle.columns.proofs.CheckLaws.{or-false, passes-keeps, column-ascends}
 use Rattle.columns.proofs.CallLaws.{lengths-right, room-right}
 use Rattle.blocks.specs.Sides.{sideDof, sideOf}
-use Rattle.blocks.specs.Claims.{mark, marked, claims, placeOf, partsTold, Mapped, Parted}
+use Rattle.blocks.specs.Claims.{lateBlocks, mark, marked, claims, placeOf, partsTold, Mapped, Parted}
 use Rattle.blocks.specs.Walk.{Roomy, walkBlocks}
 use Rattle.blocks.proofs.CallRules.{parts-passes}
 use Rattle.blocks.proofs.PartLaws.{walk-parted}
@@ -36,11 +36,11 @@ use Rattle.plan.proofs.ChunkLaws.{chunk-passes}
 use Rattle.plan.proofs.SpanCalls.{side-dof}
 use Rattle.products.specs.declared.side.Side.{Side}
 use Rattle.products.specs.declared.side.Side.the-variants.{Kept, Eliminated}
-use Rattle.products.specs.Orders.{entryOut, spanBad, chunkBad, startsBad, planBad, badPlan, earlyChunked, lateBlocks}
+use Rattle.products.specs.Orders.{lentLengths, spansTold, entryOut, spanBad, chunkBad, startsBad, planBad, badPlan, earlyChunked}
 use Rattle.products.specs.Side.{eliminated}
-use Rattle.products.specs.PlanCheck.{Risen, rowsOnly, startsOut, spansTold, PlanThere}
+use Rattle.products.specs.PlanCheck.{Risen, rowsOnly, PlanThere}
 use Rattle.products.specs.OrderWalk.{SpansFit, PlanFits}
-use Rattle.products.specs.SweepCheck.{chunkedLeft, checkChunked, lentLengths, lentSweep, checksTold, checkSweep, FewSides}
+use Rattle.products.specs.SweepCheck.{chunkedLeft, checkChunked, lentSweep, checksTold, checkSweep, FewSides}
 use Rattle.products.specs.SideFits.{DofsFit}
 use Rattle.products.proofs.PlanRules.{Rising, starts-rise, rising-within, rising-find}
 
@@ -199,7 +199,7 @@ module _ (e : Bool) (nrows : ℕ) (m : Columns) (dof len nv : ℕ) (s : Spread) 
 
 -- the plan's check looks at the rows alone
 pub plan-told-is : (e : Bool) (m : Columns) (side : List ℕ) (len : ℕ) (s : Spread) → spansTold e (rowsOnly (m .rows)) (sideDof side) len (chunkCount (m .nrows) len) s ≡ badPlan e m side len s
-unfolding spansTold badPlan planBad chunkBad spanBad entryOut
+unfolding badPlan planBad chunkBad spanBad entryOut
 plan-told-is e m side len s = refl
 
 -- ---- the whole
@@ -252,14 +252,14 @@ entry-below m k p h =
 -- a plan that is not bad
 module _ (m : Columns) (dof len chunks : ℕ) (s : Spread) (good : planBad m dof len chunks s ≡ false) where
   pub plan-rises : Rising (s .starts) chunks (length (s .lo))
-  unfolding planBad startsBad startsOut
-  plan-rises = starts-rise chunks (s .starts) (length (s .lo)) (or-false (startsBad chunks s) (some (chunkBad m dof len s) 0 chunks) good .0)
+  unfolding planBad startsBad
+  plan-rises = starts-rise chunks (s .starts) (length (s .lo)) (or-false (startsBad chunks (s .starts) (length (s .lo))) (some (chunkBad m dof len s) 0 chunks) good .0)
 
   span-good : (k : ℕ) → k < length (s .lo) → (getD (s .lo) k 0 ≤ getD (s .hi) k 0) × (getD (s .hi) k 0 ≤ entryCount m) × (getD (s .local) k 0 < dof)
   unfolding planBad chunkBad spanBad
   span-good k h =
       let b = rising-find (s .starts) chunks (length (s .lo)) plan-rises k h in
-      let c = past-none (chunkBad m dof len s) 0 chunks (or-false (startsBad chunks s) (some (chunkBad m dof len s) 0 chunks) good .1) (b .chunk) (omega arith) (b .there) in
+      let c = past-none (chunkBad m dof len s) 0 chunks (or-false (startsBad chunks (s .starts) (length (s .lo))) (some (chunkBad m dof len s) 0 chunks) good .1) (b .chunk) (omega arith) (b .there) in
       let d = past-none (spanBad m dof len s (b .chunk)) (getD (s .starts) (b .chunk) 0) (getD (s .starts) (b .chunk + 1) 0) c k (b .low) (b .high) in
       let x = or-false (ltb (getD (s .hi) k 0) (getD (s .lo) k 0)) _ d in
       let y = or-false (ltb (entryCount m) (getD (s .hi) k 0)) _ (x .1) in
@@ -270,7 +270,7 @@ module _ (m : Columns) (dof len chunks : ℕ) (s : Spread) (good : planBad m dof
   pub good-in-chunk : (c : ℕ) → c < chunks → (k : ℕ) → getD (s .starts) c 0 ≤ k → k < getD (s .starts) (c + 1) 0 → (p : ℕ) → getD (s .lo) k 0 ≤ p → p < getD (s .hi) k 0 → inChunk len c (getD (m .rows) p 0) ≡ true
   unfolding planBad chunkBad spanBad entryOut
   good-in-chunk c h k low high p a b =
-      let x = past-none (chunkBad m dof len s) 0 chunks (or-false (startsBad chunks s) (some (chunkBad m dof len s) 0 chunks) good .1) c (omega arith) h in
+      let x = past-none (chunkBad m dof len s) 0 chunks (or-false (startsBad chunks (s .starts) (length (s .lo))) (some (chunkBad m dof len s) 0 chunks) good .1) c (omega arith) h in
       let d = past-none (spanBad m dof len s c) (getD (s .starts) c 0) (getD (s .starts) (c + 1) 0) x k low high in
       let y = or-false (ltb (getD (s .hi) k 0) (getD (s .lo) k 0)) _ d in
       let z = or-false (ltb (entryCount m) (getD (s .hi) k 0)) _ (y .1) in

@@ -13,11 +13,11 @@ use Rattle.columns.specs.Columns.{Columns, columnCount}
 use Rattle.columns.specs.Sums.{zero₊, zero₋, Term, term, sumFrom, sweptOn}
 use Rattle.columns.specs.JacobianOps.{gatherTerms}
 use Rattle.blocks.specs.Sides.{sideDof}
-use Rattle.blocks.specs.Claims.{claims, mapAfter}
+use Rattle.blocks.specs.Claims.{lateBlocks, claims, mapAfter}
 use Rattle.blocks.specs.BlockValues.{valueCount}
 use Rattle.plan.specs.Spans.{chunkCount, Spread}
 use Rattle.products.specs.SideSums.{columnAt, sideGather, inverseTimes}
-use Rattle.products.specs.Orders.{badPlan, planTerms, earlyChunked, lateBlocks}
+use Rattle.products.specs.Orders.{badPlan, planTerms, earlyChunked, planLengths}
 
 -- ---- the steps
 
@@ -64,13 +64,6 @@ pub record Work : Type 0 where
 -- d, of n entries, is right where it is empty or as long as the kept dof
 unfoldable pub dampLength : ℕ → ℕ → ℕ
 dampLength n dof = cond (eqb n 0) dof n
-
-abbrev pub planLengths : ℕ → Spread → List ℕ → List ℕ
-planLengths chunks s rest =
-    length (s .starts) ∷ (chunks + 1)
-    ∷ length (s .lo) ∷ length (s .lo)
-    ∷ length (s .hi) ∷ length (s .lo)
-    ∷ length (s .local) ∷ length (s .lo) ∷ rest
 
 -- how long v, inverses, d, rows, t, u and out are
 pub record Sizes : Type 0 where

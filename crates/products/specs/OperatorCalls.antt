@@ -1,5 +1,4 @@
 -- What the functions of src/operator.rt ask and leave. Assumes nothing.
-use mathlib.Core.Path.{_≡_}
 use mathlib.Core.Bool.{true, false}
 use mathlib.Core.List.{List}
 use Prim.Native.Nat.{ℕ, _≤_}
@@ -12,7 +11,7 @@ use Rattle.columns.specs.Columns.{Columns}
 use Rattle.columns.specs.Sums.{term, addTerm}
 use Rattle.plan.specs.Spans.{chunkCount, Spread}
 use Rattle.products.specs.Operator.{Sizes, operatorPairs}
-use Rattle.products.specs.PlanCheck.{spansTold}
+use Rattle.products.specs.Orders.{spansTold}
 
 -- 11, and 13 of either side, kept first
 unfoldable pub operatorLent : ℕ → Columns → ℕ → ℕ → ℕ → ℕ → Sizes → Spread → Spread → Told

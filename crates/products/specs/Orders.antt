@@ -15,8 +15,9 @@ use Rattle.columns.specs.Columns.{Columns, columnCount, entryCount, falls}
 use Rattle.columns.specs.Sums.{zero₊, RowTerm, sweptOn}
 use Rattle.columns.specs.JacobianOps.{landings}
 use Rattle.blocks.specs.Sides.{sideDof, sideOf}
-use Rattle.blocks.specs.Claims.{claims, partsTold, walkTold, gapTold, mapAfter}
+use Rattle.blocks.specs.Claims.{claims, partsTold, lateBlocks, mapAfter}
 use Rattle.plan.specs.Spans.{chunkTold, chunkCount, inChunk, Spread}
+use Rattle.products.specs.Side.{sideNumber}
 
 -- ---- 13: a side's plan as lent
 
@@ -33,17 +34,19 @@ spanBad m dof len s c k =
 unfoldable pub chunkBad : Columns → ℕ → ℕ → Spread → ℕ → Bool
 chunkBad m dof len s c = some (spanBad m dof len s c) (getD (s .starts) c 0) (getD (s .starts) (c + 1) 0)
 
--- the starts do not rise from 0 to the span count without falling
-unfoldable pub startsBad : ℕ → Spread → Bool
-startsBad chunks s =
-    not (eqb (getD (s .starts) 0 0) 0) || (some (falls (s .starts)) 0 chunks || not (eqb (getD (s .starts) chunks 0) (length (s .lo))))
+-- the starts do not rise from 0 to the span count n without falling
+unfoldable pub startsBad : ℕ → List ℕ → ℕ → Bool
+startsBad chunks starts n = not (eqb (getD starts 0 0) 0) || (some (falls starts) 0 chunks || not (eqb (getD starts chunks 0) n))
 
 unfoldable pub planBad : Columns → ℕ → ℕ → ℕ → Spread → Bool
-planBad m dof len chunks s = startsBad chunks s || some (chunkBad m dof len s) 0 chunks
+planBad m dof len chunks s = startsBad chunks (s .starts) (length (s .lo)) || some (chunkBad m dof len s) 0 chunks
 
--- with the side: 0 kept, 1 eliminated
+-- with the side: 0 kept, 1 eliminated; where the side's dof and the count of chunks are known
+abbrev pub spansTold : Bool → Columns → ℕ → ℕ → ℕ → Spread → Told
+spansTold e m dof len chunks s = cond (planBad m dof len chunks s) (tell 13 (sideNumber e ∷ [])) done
+
 unfoldable pub badPlan : Bool → Columns → List ℕ → ℕ → Spread → Told
-badPlan e m side len s = cond (planBad m (sideDof side) len (chunkCount (m .nrows) len) s) (tell 13 (cond e 1 0 ∷ [])) done
+badPlan e m side len s = spansTold e m (sideDof side) len (chunkCount (m .nrows) len) s
 
 -- ---- terms
 
@@ -99,19 +102,20 @@ signOf e = cond e Minus Plus
 abbrev pub earlyChunked : Columns → List ℕ → List ℕ → ℕ → List ℕ → Told
 earlyChunked m kept elims len map = partsTold m kept elims (orElse (chunkTold len) (noRoom (length map ∷ columnCount m ∷ [])))
 
-abbrev pub lateBlocks : Columns → List ℕ → List ℕ → Told
-lateBlocks m kept elims = orElse (walkTold (columnCount m) (claims (columnCount m) kept elims)) (gapTold (columnCount m) (claims (columnCount m) kept elims))
-
--- the lengths of a sweep or a step: v, its starts, lo, hi and local, rows, progress
-abbrev pub sweepLengths : Columns → List ℕ → ℕ → List Float → Spread → List Float → List ℕ → List ℕ
-sweepLengths m side len v s rows progress =
-    length v ∷ sideDof side
-    ∷ length (s .starts) ∷ (chunkCount (m .nrows) len + 1)
+-- the lengths of a plan's lists, for so many chunks: starts, lo, hi and local; and then of what else is lent
+abbrev pub planLengths : ℕ → Spread → List ℕ → List ℕ
+planLengths chunks s rest =
+    length (s .starts) ∷ (chunks + 1)
     ∷ length (s .lo) ∷ length (s .lo)
     ∷ length (s .hi) ∷ length (s .lo)
-    ∷ length (s .local) ∷ length (s .lo)
-    ∷ length rows ∷ m .nrows
-    ∷ length progress ∷ chunkCount (m .nrows) len ∷ []
+    ∷ length (s .local) ∷ length (s .lo) ∷ rest
+
+-- those of a sweep or a step over n rows: v, the plan's lists, rows, progress, where nv, ny and np are how long v, rows and progress are
+abbrev pub lentLengths : ℕ → ℕ → ℕ → ℕ → Spread → ℕ → ℕ → List ℕ
+lentLengths n dof len nv s ny np = nv ∷ dof ∷ planLengths (chunkCount n len) s (ny ∷ n ∷ np ∷ chunkCount n len ∷ [])
+
+abbrev pub sweepLengths : Columns → List ℕ → ℕ → List Float → Spread → List Float → List ℕ → List ℕ
+sweepLengths m side len v s rows progress = lentLengths (m .nrows) (sideDof side) len (length v) s (length rows) (length progress)
 
 -- 1 to 9, 11 and 13, and then what comes after
 abbrev pub sweepTold : Bool → Columns → List ℕ → List ℕ → ℕ → List ℕ → List Float → Spread → List Float → List ℕ → Told → Told

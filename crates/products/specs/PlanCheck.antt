@@ -1,16 +1,13 @@
 -- Refusal 13 as src/plan_check.rt finds it, and what its functions ask. Assumes nothing.
 use mathlib.Core.Path.{_≡_}
-use mathlib.Core.Bool.{Bool, not, _&&_, _||_, cond}
-use mathlib.Core.List.{List, [], _∷_}
+use mathlib.Core.Bool.{Bool, _&&_, _||_, cond}
+use mathlib.Core.List.{List, []}
 use Prim.Native.Nat.{ℕ, _+_, _-_, _*_, _≤_, _<_}
-use lib.Dec.{eqb, leb, ltb}
+use lib.Dec.{leb, ltb}
 use lib.ListN.{length, getD}
 use Rattle.ground.specs.First.{some}
-use Rattle.columns.specs.Refusals.{Told, tell, done}
-use Rattle.columns.specs.Columns.{Columns, columnsOf, firstIn, endIn, falls}
+use Rattle.columns.specs.Columns.{Columns, columnsOf, firstIn, endIn}
 use Rattle.columns.specs.Unchecked.{RunThere}
-use Rattle.plan.specs.Spans.{Spread}
-use Rattle.products.specs.Orders.{planBad}
 
 -- columns of which the rows alone count
 abbrev pub rowsOnly : List ℕ → Columns
@@ -56,14 +53,6 @@ rowsStop rows from end a b = leb b a || (ltb 6 (b - a) || some (rowOut rows from
 
 unfoldable pub rowsStopAt : List ℕ → ℕ → ℕ → List ℕ → List ℕ → ℕ → Bool
 rowsStopAt rows from end lo hi k = rowsStop rows from end (getD lo k 0) (getD hi k 0)
-
--- the starts do not rise from 0 to n without falling
-unfoldable pub startsOut : ℕ → List ℕ → ℕ → Bool
-startsOut chunks starts n = not (eqb (getD starts 0 0) 0) || (some (falls starts) 0 chunks || not (eqb (getD starts chunks 0) n))
-
--- 13 with the side
-unfoldable pub spansTold : Bool → Columns → ℕ → ℕ → ℕ → Spread → Told
-spansTold e m dof len chunks s = cond (planBad m dof len chunks s) (tell 13 (cond e 1 0 ∷ [])) done
 
 -- ---- what its functions ask
 

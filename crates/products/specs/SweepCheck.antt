@@ -1,16 +1,14 @@
 -- The checks that steps and sweeps have in common, as src/sweep_check.rt makes them. Assumes nothing.
 use mathlib.Core.Bool.{Bool}
-use mathlib.Core.List.{List, [], _∷_}
-use Prim.Native.Nat.{ℕ, _+_}
-use lib.ListN.{length}
+use mathlib.Core.List.{List}
+use Prim.Native.Nat.{ℕ}
 use Rattle.columns.specs.Refusals.{Told, orElse}
 use Rattle.columns.specs.Lengths.{wrongLength}
 use Rattle.columns.specs.Columns.{Columns, columnCount}
 use Rattle.blocks.specs.Sides.{sideDof, sideOf}
-use Rattle.blocks.specs.Claims.{claims, mapAfter, Mapped}
+use Rattle.blocks.specs.Claims.{lateBlocks, claims, mapAfter, Mapped}
 use Rattle.plan.specs.Spans.{chunkCount, Spread}
-use Rattle.products.specs.Orders.{badPlan, earlyChunked, lateBlocks}
-use Rattle.products.specs.PlanCheck.{spansTold}
+use Rattle.products.specs.Orders.{spansTold, badPlan, earlyChunked, lentLengths}
 use Rattle.products.specs.SideFits.{DofsFit}
 
 -- 1 to 9 of a call with a chunk length, and the map that they leave
@@ -26,17 +24,6 @@ checkChunked m kept elims len map = record {
   told = chunkedTold m kept elims len map;
   map = chunkedLeft (chunkedTold m kept elims len map) m kept elims len map;
 }
-
--- the lengths, where n is the row count and nv, ny and np are those of v, rows and progress
-abbrev pub lentLengths : ℕ → ℕ → ℕ → ℕ → Spread → ℕ → ℕ → List ℕ
-lentLengths n dof len nv s ny np =
-    nv ∷ dof
-    ∷ length (s .starts) ∷ (chunkCount n len + 1)
-    ∷ length (s .lo) ∷ length (s .lo)
-    ∷ length (s .hi) ∷ length (s .lo)
-    ∷ length (s .local) ∷ length (s .lo)
-    ∷ ny ∷ n
-    ∷ np ∷ chunkCount n len ∷ []
 
 -- 11 and 13
 unfoldable pub lentSweep : Bool → ℕ → Columns → ℕ → ℕ → ℕ → Spread → ℕ → ℕ → Told

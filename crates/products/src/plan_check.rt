@@ -19,11 +19,10 @@ ghost use lib.ListN.{length};
 ghost use Rattle.ground.specs.First.{first, some};
 ghost use Rattle.columns.specs.Refusals.{told};
 ghost use Rattle.columns.specs.Unchecked.{RunThere};
-ghost use Rattle.products.specs.Orders.{chunkBad};
+ghost use Rattle.products.specs.Orders.{startsBad, spansTold, chunkBad};
 ghost use Rattle.products.specs.Side.{eliminated};
 ghost use Rattle.plan.specs.Spans.{spreadOf};
 ghost use Rattle.products.specs.PlanCheck.{
-  startsOut,
   rowsOnly,
   rowOut,
   endsOut,
@@ -35,7 +34,6 @@ ghost use Rattle.products.specs.PlanCheck.{
   rowsStop,
   rowsStopAt,
   spanOutAt,
-  spansTold,
   Risen,
   Window,
   SomeThere,
@@ -361,7 +359,7 @@ fn some_chunk_bad(
 // Whether the starts do not rise from 0 to the span count n without falling.
 fn starts_bad(starts: &[u32], chunks: usize, n: usize) -> bool
     requires { ⌜ StartsThere (length (now starts)) chunks ⌝ }
-    ensures { λ r. ⌜ r ≡ startsOut chunks (now (starts .entry)) n ⌝ }
+    ensures { λ r. ⌜ r ≡ startsBad chunks (now (starts .entry)) n ⌝ }
 {
     if starts[0] != 0 {
         return true;

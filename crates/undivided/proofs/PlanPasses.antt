@@ -56,7 +56,7 @@ module _ (m : Columns) (side : List ℕ) (len : ℕ) (h : Chunked (m .nrows) len
   abbrev chunks : ℕ
   chunks = chunkCount (m .nrows) len
 
-  starts-good : startsBad chunks s ≡ false
+  starts-good : startsBad chunks (s .starts) (length (s .lo)) ≡ false
   unfolding startsBad falls
   starts-good =
       let z : getD (s .starts) 0 0 ≡ 0 = start-at m side len s g 0 (omega arith) ∙ ap length (gather-none (chunkSpans m side len) 0 0 (omega arith)) in

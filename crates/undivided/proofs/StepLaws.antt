@@ -16,13 +16,14 @@ use Rattle.columns.proofs.RefusalLaws.{pass-done, both-pass}
 use Rattle.columns.proofs.CallLaws.{lengths-right}
 use Rattle.blocks.specs.Sides.{sideOf}
 use Rattle.plan.specs.Spans.{chunkCount, Spread}
-use Rattle.products.specs.Orders.{badPlan, badOrder, orderTerms, signOf, earlyChunked, lateBlocks, sweepLengths, startRows, sweepTold₁₄, sweepOf}
+use Rattle.products.specs.Orders.{badPlan, badOrder, orderTerms, signOf, earlyChunked, sweepLengths, startRows, sweepTold₁₄, sweepOf}
 use Rattle.products.specs.OrderWalk.{placeTerms}
 use Rattle.products.specs.SideSums.{sideTerms}
 use Rattle.product_laws.specs.Steps.{stepsOf}
 use Rattle.product_laws.proofs.StepLaws.{start-length, steps-accepted}
 use Rattle.undivided.specs.Undivided.{SidePlanned}
 use Rattle.undivided.proofs.Demand3.{rows-of-order}
+use Rattle.blocks.specs.Claims.{lateBlocks}
 
 module _ (e : Bool) (m : Columns) (kept elims : List ℕ) (len : ℕ) (map : List ℕ) (v : List Float) (s : Spread) (rows : List Float) (progress order : List ℕ) (ok : sweepTold₁₄ e m kept elims len map v s rows progress order ≡ done) where
   abbrev lengths : Told

@@ -16,12 +16,12 @@ use Rattle.columns.specs.Lengths.{lengthOf, needOf, pairBad, badPair, pairsTold
 use Rattle.columns.specs.Columns.{Columns, columnCount, Keeps}
 use Rattle.columns.proofs.RefusalLaws.{or-done}
 use Rattle.blocks.specs.Sides.{sideOf}
-use Rattle.blocks.specs.Claims.{Parted}
+use Rattle.blocks.specs.Claims.{lateBlocks, Parted}
 use Rattle.blocks.proofs.PartLaws.{parted-parts, parted-late}
 use Rattle.plan.specs.Spans.{chunkTold, Spread}
 use Rattle.plan.specs.SpanWalk.{Chunked}
 use Rattle.plan_laws.proofs.PlanLaws.{chunk-done}
-use Rattle.products.specs.Orders.{badPlan, hasNext, placeBad, chunkLeft, badOrder, stepOrder, earlyChunked, lateBlocks, sweepLengths, sweepTold}
+use Rattle.products.specs.Orders.{badPlan, hasNext, placeBad, chunkLeft, badOrder, stepOrder, earlyChunked, sweepLengths, sweepTold}
 use Rattle.products.specs.Operator.{Operands, Work, operatorLengths, operatorTold}
 use Rattle.product_laws.proofs.StepLaws.{one-room}
 use Rattle.undivided.specs.Undivided.{SidePlanned, SweepFits, OperatorFits}
