@@ -1,4 +1,5 @@
--- A block's values: a part of the values lent, which hold each eliminated block by columns, one block after the other. Assumes nothing.
+-- To be believed. A block's values: a part of the values lent, which hold each eliminated block by columns, one block after the other. Assumes
+-- nothing.
 use mathlib.Core.Bool.{Bool, _&&_, cond}
 use mathlib.Core.List.{List}
 use Prim.Native.Nat.{ℕ, zero, suc, _+_, _*_}

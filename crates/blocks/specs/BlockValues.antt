@@ -1,4 +1,4 @@
--- The values of the eliminated blocks, block after block and each by columns: gathered from the columns, and damped. Assumes nothing.
+-- To be believed. The values of the eliminated blocks, block after block and each by columns: gathered from the columns, and damped. Assumes nothing.
 use mathlib.Core.Path.{_≡_}
 use mathlib.Core.List.{List, [], _∷_}
 use Prim.Native.Nat.{ℕ, _+_, _*_, _≤_, _<_}

@@ -1,4 +1,4 @@
--- Refusals 1, 2, 4 and 6 to 9, over columns and both sides, and the column map. Assumes nothing.
+-- To be believed. Refusals 1, 2, 4 and 6 to 9, over columns and both sides, and the column map. Assumes nothing.
 use mathlib.Core.Path.{_≡_}
 use mathlib.Core.Bool.{Bool, not, _||_, cond}
 use mathlib.Core.List.{List, [], _∷_, _++_}

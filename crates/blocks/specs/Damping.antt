@@ -1,4 +1,4 @@
--- Damping: its terms, and refusal 12. Assumes nothing.
+-- To be believed. Damping: its terms, and refusal 12. Assumes nothing.
 use mathlib.Core.Bool.{Bool, _||_, cond}
 use mathlib.Core.List.{List, [], _∷_}
 use lib.Ieee.{Float, binary64, mul, lt, isNan, ofInt}

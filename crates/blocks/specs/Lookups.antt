@@ -1,4 +1,4 @@
--- Lookups, on lists that nobody has checked. An odd last number is ignored, since whole pairs are counted. Assumes nothing.
+-- To be believed. Lookups, on lists that nobody has checked. An odd last number is ignored, since whole pairs are counted. Assumes nothing.
 use mathlib.Core.Path.{_≡_}
 use mathlib.Core.Bool.{Bool, true, _&&_, cond}
 use mathlib.Core.List.{List}

@@ -1,4 +1,4 @@
--- A side's blocks, in the caller's order, and its columns in local order. Assumes nothing.
+-- To be believed. A side's blocks, in the caller's order, and its columns in local order. Assumes nothing.
 use mathlib.Core.Path.{_≡_}
 use mathlib.Core.Bool.{Bool, cond}
 use mathlib.Core.List.{List}

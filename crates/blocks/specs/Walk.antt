@@ -1,5 +1,5 @@
--- The walk of 7 to 9 as src/check.rt makes it, on the map itself: a column is free where the map holds the mark. proofs/WalkLaws.antt shows
--- that it tells and leaves what Claims.antt says. Assumes nothing.
+-- The code's own. The walk of 7 to 9 as src/check.rt makes it, on the map itself: a column is free where the map holds the mark. proofs/WalkLaws.antt
+-- shows that it tells and leaves what Claims.antt says. Assumes nothing.
 use mathlib.Core.Path.{_≡_}
 use mathlib.Core.Bool.{Bool, cond}
 use mathlib.Core.List.{List, [], _∷_, _++_}

@@ -1,4 +1,4 @@
--- Columns, their places, and refusals 1 to 3. Assumes nothing.
+-- To be believed. Columns, their places, and refusals 1 to 3. Assumes nothing.
 use mathlib.Core.Path.{_≡_}
 use mathlib.Core.Bool.{Bool, not, _&&_, _||_, cond}
 use mathlib.Core.List.{List, [], _∷_}

@@ -1,4 +1,4 @@
--- The products of jacobian_ops.rs: their terms, and what each call answers and leaves. Assumes nothing.
+-- To be believed. The products of jacobian_ops.rs: their terms, and what each call answers and leaves. Assumes nothing.
 use mathlib.Core.Bool.{cond, _&&_}
 use mathlib.Core.List.{List, [], _∷_}
 use Prim.Native.Nat.{ℕ}

@@ -1,4 +1,4 @@
--- Refusals 6 and 11: what a call is lent, in order, as a flat list of pairs: length, need. Assumes nothing.
+-- To be believed. Refusals 6 and 11: what a call is lent, in order, as a flat list of pairs: length, need. Assumes nothing.
 use mathlib.Core.Bool.{Bool, _&&_, _||_, true, false, cond}
 use mathlib.Core.List.{List, [], _∷_}
 use Prim.Native.Nat.{ℕ, _+_, _/_, _<_}

@@ -1,4 +1,4 @@
--- One column's walk. Assumes nothing.
+-- The code's own. One column's walk. Assumes nothing.
 use mathlib.Core.Bool.{Bool, true, _||_, cond}
 use mathlib.Core.List.{List}
 use Prim.Native.Nat.{ℕ, _+_}

@@ -1,4 +1,5 @@
--- The numbered answers: what document 01's table says of each case of `Refusal`, and how checks go one after the other. Assumes nothing.
+-- To be believed. The numbered answers: what document 01's table says of each case of `Refusal`, and how checks go one after the other. Assumes
+-- nothing.
 use mathlib.Core.Path.{_≡_}
 use mathlib.Core.Bool.{cond}
 use mathlib.Core.List.{List, [], _∷_}

@@ -1,4 +1,5 @@
--- The quick test of all columns' rows at once, which finds no place: where it passes, no row is bad (proofs/RiseLaws.antt). Assumes nothing.
+-- The code's own. The quick test of all columns' rows at once, which finds no place: where it passes, no row is bad (proofs/RiseLaws.antt). Assumes
+-- nothing.
 use mathlib.Core.Bool.{Bool, true, false, not, _&&_}
 use mathlib.Core.List.{List}
 use Prim.Native.Nat.{ℕ, zero, suc, _+_, _-_, _≤_}

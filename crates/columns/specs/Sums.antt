@@ -1,4 +1,5 @@
--- Ordered sums under IEEE 754 binary64: a list of terms, taken in one by one, each product rounded and then each sum. Assumes nothing.
+-- To be believed. Ordered sums under IEEE 754 binary64: a list of terms, taken in one by one, each product rounded and then each sum. Assumes
+-- nothing.
 use mathlib.Core.List.{List}
 use Prim.Native.Nat.{ℕ}
 use lib.ListN.{getD, set}

@@ -1,4 +1,4 @@
--- What the functions that check nothing ask: what a passed check gives (proofs/CheckLaws.antt). Assumes nothing.
+-- The code's own. What the functions that check nothing ask: what a passed check gives (proofs/CheckLaws.antt). Assumes nothing.
 use mathlib.Core.Path.{_≡_}
 use mathlib.Core.Bool.{cond}
 use mathlib.Core.List.{List}

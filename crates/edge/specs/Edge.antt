@@ -1,4 +1,5 @@
--- What crosses the edge. Enums do not, so that an export returns the answer's number and writes its values through two numbers. Assumes nothing.
+-- To be believed. What crosses the edge. Enums do not, so that an export returns the answer's number and writes its values through two numbers.
+-- Assumes nothing.
 use mathlib.Core.List.{List}
 use Prim.Native.Nat.{ℕ}
 use lib.ListN.{getD}

@@ -1,4 +1,4 @@
--- What the exports give that are there for comparison only. Assumes nothing.
+-- To be believed. What the exports give that are there for comparison only. Assumes nothing.
 use mathlib.Core.Bool.{Bool, not}
 use mathlib.Core.List.{List}
 use Prim.Native.Nat.{ℕ}

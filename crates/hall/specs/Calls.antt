@@ -1,4 +1,4 @@
--- What the hall's calls leave, as the promises of those calls have it. Assumes nothing.
+-- The code's own. What the hall's calls leave, as the promises of those calls have it. Assumes nothing.
 use Rattle.columns.specs.Refusals.{told}
 use Rattle.plan.specs.Plan.{Outcome, buffers, toldPlan}
 use Rattle.products.specs.Operator.{Operated}

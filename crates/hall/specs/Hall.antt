@@ -1,4 +1,4 @@
--- The built-in hall's tables, and what its calls are lent. Assumes nothing.
+-- To be believed. The built-in hall's tables, and what its calls are lent. Assumes nothing.
 use mathlib.Core.Bool.{false}
 use mathlib.Core.List.{List, [], _∷_}
 use Prim.Native.Nat.{ℕ}

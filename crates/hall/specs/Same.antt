@@ -1,4 +1,4 @@
--- What the self-check's comparisons answer. Assumes nothing.
+-- The code's own. What the self-check's comparisons answer. Assumes nothing.
 use mathlib.Core.Bool.{Bool, false, not, _&&_}
 use mathlib.Core.List.{List, [], _∷_}
 use Prim.Native.Nat.{ℕ}

@@ -1,5 +1,5 @@
--- The (P) cases of the built-in hall, one table: what the definitions that the promises cite give on the hall's tables, and document 01's
--- figures. proofs/HallTable.antt shows it. Assumes nothing.
+-- To be believed. The (P) cases of the built-in hall, one table: what the definitions that the promises cite give on the hall's tables, and document
+-- 01's figures. proofs/HallTable.antt shows it. Assumes nothing.
 use mathlib.Core.Path.{_≡_}
 use mathlib.Core.Bool.{true, false}
 use mathlib.Core.List.{List, [], _∷_, _++_}

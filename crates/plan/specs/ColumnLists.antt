@@ -1,4 +1,4 @@
--- The lists of a side's columns and of their blocks, as src/lists.rt writes them. Assumes nothing.
+-- The code's own. The lists of a side's columns and of their blocks, as src/lists.rt writes them. Assumes nothing.
 use mathlib.Core.Path.{_≡_}
 use mathlib.Core.List.{List, _++_}
 use Prim.Native.Nat.{ℕ, _+_, _≤_, _<_}

@@ -1,4 +1,4 @@
--- How many entries some columns have. Assumes nothing.
+-- The code's own. How many entries some columns have. Assumes nothing.
 use mathlib.Core.List.{List}
 use Prim.Native.Nat.{ℕ, zero, suc, _+_, _-_}
 use lib.ListN.{getD}

@@ -1,4 +1,4 @@
--- Row lists and visible lists, flat with their starts. Assumes nothing.
+-- To be believed. Row lists and visible lists, flat with their starts. Assumes nothing.
 use mathlib.Core.Path.{_≡_}
 use mathlib.Core.Bool.{Bool, cond}
 use mathlib.Core.List.{List, [], _∷_, _++_}

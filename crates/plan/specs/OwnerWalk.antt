@@ -1,5 +1,5 @@
--- The walk of 10 as src/owners.rt makes it, on the owners themselves: a row is free where they hold the mark. proofs/OwnerLaws.antt shows that it
--- tells and leaves what Owners.antt says. Assumes nothing.
+-- The code's own. The walk of 10 as src/owners.rt makes it, on the owners themselves: a row is free where they hold the mark. proofs/OwnerLaws.antt
+-- shows that it tells and leaves what Owners.antt says. Assumes nothing.
 use mathlib.Core.Bool.{cond}
 use mathlib.Core.List.{List, [], _∷_}
 use Prim.Native.Nat.{ℕ, _≤_, _<_}

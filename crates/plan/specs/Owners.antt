@@ -1,4 +1,4 @@
--- The owner of a row, and refusal 10. Assumes nothing.
+-- To be believed. The owner of a row, and refusal 10. Assumes nothing.
 use mathlib.Core.Path.{_≡_}
 use mathlib.Core.Bool.{Bool, true, not, _&&_, cond}
 use mathlib.Core.List.{List, [], _∷_, _++_}

@@ -1,4 +1,4 @@
--- The plan: room, refusals 1 to 10, and what a call leaves in its seventeen buffers. Assumes nothing.
+-- To be believed. The plan: room, refusals 1 to 10, and what a call leaves in its seventeen buffers. Assumes nothing.
 use mathlib.Core.List.{List, [], _∷_, _++_}
 use Prim.Native.Nat.{ℕ, _+_}
 use lib.ListN.{length, drop, replicate}

@@ -1,4 +1,4 @@
--- What the check of the room asks: numbers small enough to count on from. Assumes nothing.
+-- The code's own. What the check of the room asks: numbers small enough to count on from. Assumes nothing.
 use Prim.Native.Nat.{ℕ, _≤_}
 use Rattle.plan.specs.SpanWalk.{Chunked}
 

@@ -1,4 +1,4 @@
--- Chunks of rows and a side's spans. Assumes nothing.
+-- To be believed. Chunks of rows and a side's spans. Assumes nothing.
 use mathlib.Core.Path.{_≡_}
 use mathlib.Core.Bool.{Bool, true, _&&_, _||_, cond}
 use mathlib.Core.List.{List, [], _∷_, _++_, map}

@@ -1,4 +1,5 @@
--- Public steps, one after the other along a work order, from any rows. StepLaws shows that an accepted sweep is its steps. Assumes nothing.
+-- To be believed. Public steps, one after the other along a work order, from any rows. StepLaws shows that an accepted sweep is its steps. Assumes
+-- nothing.
 use mathlib.Core.Path.{_≡_}
 use mathlib.Core.Bool.{Bool}
 use mathlib.Core.List.{List}

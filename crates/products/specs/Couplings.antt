@@ -1,4 +1,5 @@
--- The calls that need no plan: `apply_eliminated_inverse`, `coupling_times`, `coupling_transpose_times` and `combine_updates`. Assumes nothing.
+-- To be believed. The calls that need no plan: `apply_eliminated_inverse`, `coupling_times`, `coupling_transpose_times` and `combine_updates`.
+-- Assumes nothing.
 use mathlib.Core.Bool.{Bool, not, cond}
 use mathlib.Core.List.{List, [], _∷_}
 use Prim.Native.Nat.{ℕ, _-_}

@@ -1,4 +1,4 @@
--- What the functions behind the calls of src/coupling.rt and src/update.rt ask and leave. Assumes nothing.
+-- The code's own. What the functions behind the calls of src/coupling.rt and src/update.rt ask and leave. Assumes nothing.
 use mathlib.Core.Bool.{cond}
 use mathlib.Core.List.{List}
 use Prim.Native.Nat.{ℕ, _+_, _-_, _<_}

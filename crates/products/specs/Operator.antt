@@ -1,4 +1,4 @@
--- The reduced operator over a plan as it is lent: out = Fᵀ(F·v − E·(inverses·Eᵀ·F·v)) + d·v. Assumes nothing.
+-- To be believed. The reduced operator over a plan as it is lent: out = Fᵀ(F·v − E·(inverses·Eᵀ·F·v)) + d·v. Assumes nothing.
 use mathlib.Core.Bool.{true, false, cond}
 use mathlib.Core.List.{List, [], _∷_, _++_}
 use Prim.Native.Nat.{ℕ, _+_}

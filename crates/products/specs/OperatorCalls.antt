@@ -1,4 +1,4 @@
--- What the functions of src/operator.rt ask and leave. Assumes nothing.
+-- The code's own. What the functions of src/operator.rt ask and leave. Assumes nothing.
 use mathlib.Core.Bool.{true, false}
 use mathlib.Core.List.{List}
 use Prim.Native.Nat.{ℕ, _≤_}

@@ -1,4 +1,4 @@
--- Steps and work orders as src/order.rt and src/spans_sweep.rt do them, and what their functions ask. Assumes nothing.
+-- The code's own. Steps and work orders as src/order.rt and src/spans_sweep.rt do them, and what their functions ask. Assumes nothing.
 use mathlib.Core.Path.{_≡_}
 use mathlib.Core.Bool.{Bool, true}
 use mathlib.Core.List.{List, []}

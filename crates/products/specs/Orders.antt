@@ -1,4 +1,4 @@
--- Plans as they are lent, work orders, steps and sweeps: refusals 5, 13 and 14. Assumes nothing.
+-- To be believed. Plans as they are lent, work orders, steps and sweeps: refusals 5, 13 and 14. Assumes nothing.
 use mathlib.Core.Bool.{Bool, not, _&&_, _||_, cond}
 use mathlib.Core.List.{List, [], _∷_}
 use Prim.Native.Nat.{ℕ, zero, suc, _+_, _-_}

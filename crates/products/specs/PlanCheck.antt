@@ -1,4 +1,4 @@
--- Refusal 13 as src/plan_check.rt finds it, and what its functions ask. Assumes nothing.
+-- The code's own. Refusal 13 as src/plan_check.rt finds it, and what its functions ask. Assumes nothing.
 use mathlib.Core.Path.{_≡_}
 use mathlib.Core.Bool.{Bool, _&&_, _||_, cond}
 use mathlib.Core.List.{List, []}

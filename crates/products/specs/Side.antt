@@ -1,4 +1,4 @@
--- The two sides as the code names them. Assumes nothing.
+-- To be believed. The two sides as the code names them. Assumes nothing.
 use mathlib.Core.Bool.{Bool, true, false, cond}
 use Prim.Native.Nat.{ℕ}
 use Rattle.products.specs.declared.side.Side.{Side}

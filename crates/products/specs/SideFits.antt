@@ -1,4 +1,4 @@
--- What the functions of src/side_sums.rt ask, and what their loops over one block come to. Assumes nothing.
+-- The code's own. What the functions of src/side_sums.rt ask, and what their loops over one block come to. Assumes nothing.
 use mathlib.Core.Path.{_≡_}
 use mathlib.Core.List.{List, [], _∷_}
 use Prim.Native.Nat.{ℕ, _+_, _*_, _≤_, _<_}

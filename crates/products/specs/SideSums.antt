@@ -1,4 +1,4 @@
--- The undivided sweep of a side, its gathers, and the block inverses times a vector. Assumes nothing.
+-- To be believed. The undivided sweep of a side, its gathers, and the block inverses times a vector. Assumes nothing.
 use mathlib.Core.List.{List, [], _∷_}
 use Prim.Native.Nat.{ℕ, _+_, _*_}
 use lib.ListN.{getD}

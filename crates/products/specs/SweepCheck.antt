@@ -1,4 +1,4 @@
--- The checks that steps and sweeps have in common, as src/sweep_check.rt makes them. Assumes nothing.
+-- The code's own. The checks that steps and sweeps have in common, as src/sweep_check.rt makes them. Assumes nothing.
 use mathlib.Core.Bool.{Bool}
 use mathlib.Core.List.{List}
 use Prim.Native.Nat.{ℕ}

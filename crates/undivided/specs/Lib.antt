@@ -1,2 +1,3 @@
+-- what a reader must believe
 pub mod Undivided
 pub mod Plain

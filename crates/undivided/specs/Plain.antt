@@ -1,4 +1,4 @@
--- The operator written without spans: document 01's sums, column by column in block order. Assumes nothing.
+-- To be believed. The operator written without spans: document 01's sums, column by column in block order. Assumes nothing.
 use mathlib.Core.List.{List}
 use Prim.Native.Nat.{ℕ}
 use lib.ListN.{replicate}

@@ -1,4 +1,5 @@
--- What the laws of this crate speak of: a row's own terms and their sum, a chunk's terms, and lists that are a side's plan. Assumes nothing.
+-- To be believed. What the laws of this crate speak of: a row's own terms and their sum, a chunk's terms, and lists that are a side's plan. Assumes
+-- nothing.
 use mathlib.Core.Path.{_≡_}
 use mathlib.Core.Bool.{Bool, cond}
 use mathlib.Core.List.{List, map}
