@@ -10,11 +10,11 @@ use lib.Seq.{getD-take, getD-drop}
 use lib.Dec.{ltb}
 use borrow.Author.Tests.{lt-ltb, leb-true}
 use lib.Ieee.{Float, nan}
+use Rattle.ground.proofs.TestLaws.{and-true}
 use Rattle.blocks.specs.declared.eliminated_blocks.Entry.the-variants as entry
 use Rattle.blocks.specs.Sides.{dofOf}
 use Rattle.blocks.specs.Lookups.{asked}
 use Rattle.blocks.specs.Access.{squareOf, squaresBefore, reaches, blockPlace, blockPart, entryPlace, entryIn}
-use Rattle.blocks.proofs.LookupRules.{and-true}
 use Rattle.blocks.proofs.AccessRules.{in-square}
 
 -- an entry is one of its block's values

@@ -10,6 +10,7 @@ use lib.Dec.{ltb, leb}
 use lib.ListN.{length, getD, take, drop}
 use lib.Ieee.{Float, nan}
 use borrow.Author.Tests.{lt-ltb, le-ltb, le-leb, lt-leb, ltb-true, leb-true, leb-false}
+use Rattle.ground.proofs.TestLaws.{and-true}
 use Rattle.blocks.specs.Sides.{dofOf}
 use Rattle.blocks.specs.declared.partition.Number.{Number}
 use Rattle.blocks.specs.declared.partition.Number.the-variants.{Is, Nothing}
@@ -17,7 +18,7 @@ use Rattle.blocks.specs.declared.eliminated_blocks.Place.{Place}
 use Rattle.blocks.specs.declared.eliminated_blocks.Entry.the-variants as entry
 use Rattle.blocks.specs.Lookups.{asked, BlockThere}
 use Rattle.blocks.specs.Access.{squareOf, squaresBefore, upTo, reaches, blockPlace, blockPart, dofIn, entryPlace, entryIn}
-use Rattle.blocks.proofs.LookupRules.{and-true, block-there, lookups}
+use Rattle.blocks.proofs.LookupRules.{block-there, lookups}
 
 pub square-is : (elims : List ℕ) (b d : ℕ) → d ≡ dofOf elims b → d * d ≡ squareOf elims b
 unfolding squareOf

@@ -1,7 +1,7 @@
 -- What the code of src/partition.rt shows of the definitions: a lemma for each way that a function returns, and what its calls ask. Assumes
 -- nothing.
 use mathlib.Core.Path.{_≡_, refl}
-use mathlib.Core.Bool.{Bool, true, false, _&&_, cond}
+use mathlib.Core.Bool.{Bool, true, false, cond}
 use mathlib.Core.List.{List}
 use Prim.Native.Nat.{ℕ, _+_, _-_, _/_, _≤_, _<_}
 use native.Mathlib.Numerals.{add-one}
@@ -13,6 +13,7 @@ use borrow.Author.Tests.{lt-ltb, le-ltb, le-leb, lt-leb, ltb-true, ltb-false, le
 use Rattle.ground.specs.First.{first}
 use Rattle.ground.proofs.FirstLaws.{first-bad}
 use Rattle.ground.proofs.Rules.{searches}
+use Rattle.ground.proofs.TestLaws.{and-true}
 use Rattle.blocks.specs.Sides.{firstOf, dofOf, offsetOf}
 use Rattle.blocks.specs.Claims.{tooMany}
 use Rattle.blocks.specs.declared.partition.Number.{Number}
@@ -64,10 +65,6 @@ module _ (side : List ℕ) (column b start : ℕ) (e : start ≡ firstOf side b)
   pub holds-high : (dof : ℕ) → dof ≡ dofOf side b → start ≤ column → ltb column (start + dof) ≡ holds side column b
   unfolding holds
   holds-high dof f l = rw (le-leb (firstOf side b) column (rw e at l), e, f)
-
-pub and-true : (a b : Bool) → (a && b) ≡ true → (a ≡ true) × (b ≡ true)
-and-true true b e = (refl, e)
-and-true false b e = let z : _≡_ {A = ℕ} 0 1 = cc in absurd (omega arith)
 
 -- what it is worth that a block holds a column
 pub held-low : (side : List ℕ) (column b : ℕ) → holds side column b ≡ true → firstOf side b ≤ column

@@ -10,6 +10,7 @@ use lib.Dec.{ltb, leb, eqb}
 use lib.ListN.{length, getD}
 use borrow.Author.Tests.{lt-ltb, le-ltb, lt-leb, eq-eqb, ne-eqb, ltb-true, ltb-false, leb-false, eqb-true, eqb-false, not-false}
 use Rattle.ground.specs.First.{first, some}
+use Rattle.ground.proofs.TestLaws.{rises-by}
 use Rattle.ground.proofs.FirstLaws.{past-none, none-past, first-stop, first-low}
 use Rattle.columns.specs.Refusals.{tell, done, Passes}
 use Rattle.columns.specs.Columns.{
@@ -93,10 +94,7 @@ shape-ok m s =
 module _ {m : Columns} (s : Shaped m) where
   -- pointers do not fall
   pub rising : (i d : ℕ) → i + d ≤ columnCount m → getD (m .ptrs) i 0 ≤ getD (m .ptrs) (i + d) 0
-  rising i zero l = le-of-eq (ap (λ (n : ℕ). getD (m .ptrs) n 0) (omega arith))
-  rising i (suc d) l =
-      let e : i + d + 1 ≡ i + suc d = omega arith in
-      le-trans (rising i d (omega arith)) (subst (λ (n : ℕ). getD (m .ptrs) (i + d) 0 ≤ getD (m .ptrs) n 0) e (s .rises (i + d) (omega arith)))
+  rising = rises-by (m .ptrs) (columnCount m) (s .rises)
 
   within : (j : ℕ) → j ≤ columnCount m → getD (m .ptrs) j 0 ≤ entryCount m
   within j l =

@@ -10,6 +10,7 @@ use borrow.Author.Tests.{lt-ltb, le-ltb, lt-leb, ltb-true, leb-false}
 use Rattle.ground.specs.First.{first, some, None}
 use Rattle.ground.proofs.FirstLaws.{first-none, first-low, first-bad, past-none, none-past, some-at}
 use Rattle.ground.proofs.Rules.{searches}
+use Rattle.ground.proofs.TestLaws.{or-of}
 use Rattle.columns.specs.Refusals.{tell, done}
 use Rattle.columns.specs.Lengths.{lengthOf, needOf, pairBad, badPair, pairsTold}
 use Rattle.columns.specs.Columns.{falls, rowFalls, rowBad}
@@ -67,9 +68,6 @@ module _ (nrows : ℕ) (rows : List ℕ) (from to : ℕ) where
 pub falls-read : (rows : List ℕ) (p : ℕ) → leb (getD rows p 0) (getD rows (p - 1) 0) ≡ rowFalls rows p
 unfolding rowFalls
 falls-read rows p = refl
-
-pub or-of : (b t u : Bool) → t ≡ u → (b || t) ≡ (b || u)
-or-of b t u e = rw e
 
 -- ---- what is lent
 

@@ -1,6 +1,6 @@
 -- The laws of counts, and that where the quick test passes no row is bad. Assumes nothing.
 use mathlib.Core.Path.{_≡_, refl, sym, ap, _∙_}
-use mathlib.Core.Bool.{Bool, true, false, not, _&&_}
+use mathlib.Core.Bool.{Bool, true, false, not}
 use mathlib.Core.List.{List}
 use Prim.Native.Nat.{ℕ, zero, suc, _+_, _-_, _≤_, _<_}
 use native.Mathlib.Omega.{arith}
@@ -12,18 +12,13 @@ use mir.Val.{boolByte}
 use Rattle.ground.specs.First.{first, some, None}
 use Rattle.ground.proofs.FirstLaws.{past-none, none-past}
 use Rattle.ground.proofs.Rules.{searches}
+use Rattle.ground.proofs.TestLaws.{and-true}
 use Rattle.columns.specs.Columns.{Columns, columnCount, entryCount, firstIn, endIn, tooBig, rowFalls, rowBad, columnBad, badRow, Shaped}
-use Rattle.columns.specs.Unchecked.{ColumnThere, RunThere, RunsThere}
+use Rattle.columns.specs.Unchecked.{ColumnThere, RunThere}
 use Rattle.columns.specs.Refusals.{done}
 use Rattle.columns.proofs.CheckLaws.{small-of, rising, column-run, column-there}
 use Rattle.columns.proofs.CheckRules.{column-empty, column-falls}
 use Rattle.columns.specs.Rises.{bitOf, countN, count, rowRises, beginsLow, endsHigh, columnLow, columnHigh, allRise, RisesFit}
-
--- ---- tests
-
-and-true : (a b : Bool) → (a && b) ≡ true → (a ≡ true) × (b ≡ true)
-and-true true b e = (refl, e)
-and-true false b e = let z : _≡_ {A = ℕ} 0 1 = cc in absurd (omega arith)
 
 -- ---- counts
 

@@ -2,7 +2,7 @@
 -- so the walk stops at the first clash and nowhere else; and a row's first entry is of its first block, since blocks come in order. Assumes nothing.
 use Rattle.ground.proofs.ListLaws.{listOf-same, set-listOf, listOf-all, getD-front}
 use mathlib.Core.Path.{_≡_, refl, sym, ap, _∙_, subst}
-use mathlib.Core.Bool.{Bool, true, false, _&&_, cond}
+use mathlib.Core.Bool.{Bool, true, false, cond}
 use mathlib.Core.List.{List, [], _∷_, _++_}
 use Prim.Native.Nat.{ℕ, zero, suc, _+_, _≤_, _<_}
 use native.Mathlib.Numerals.{add-one}
@@ -19,6 +19,7 @@ use Rattle.ground.proofs.FirstLaws.{first-bad, first-none, first-stop, first-tu
 use Rattle.ground.proofs.GatherLaws.{length-listOf}
 use Rattle.ground.proofs.EachLaws.{all-gather, all-part, Leads, leads-none, leads-one, leads-gather, leads-some, leads-same, all-gathered}
 use Rattle.ground.proofs.BucketLaws.{bucket-gather}
+use Rattle.ground.proofs.TestLaws.{and-true}
 use Rattle.columns.specs.Refusals.{tell, done}
 use Rattle.columns.specs.Columns.{Columns, firstIn, endIn}
 use Rattle.blocks.specs.Sides.{blockCount, firstOf, dofOf}
@@ -26,10 +27,6 @@ use Rattle.blocks.specs.Claims.{mark}
 use Rattle.plan.specs.Owners.{inColumn, inBlock, ownerOf, Entry, entry, entryAt, columnEntries, blockEntries, sideEntries, entryIn, holder, clashes, firstClash, connectedTold}
 use Rattle.plan.specs.OwnerWalk.{owned, claimOn, claimed}
 use Rattle.plan.proofs.OwnerRules.{step-free, step-own, step-held, stopped-all}
-
-and-true : (a b : Bool) → (a && b) ≡ true → (a ≡ true) × (b ≡ true)
-and-true true b e = (refl, e)
-and-true false b e = let z : _≡_ {A = ℕ} 0 1 = cc in absurd (omega arith)
 
 -- ---- who holds a row before entry k
 

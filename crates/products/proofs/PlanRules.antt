@@ -1,6 +1,6 @@
 -- What the functions of src/plan_check.rt show: a lemma for each way that they return, and that looking at each chunk's spans by its first row
 -- and its end is what the definitions say. Assumes nothing.
-use mathlib.Core.Path.{_≡_, refl, sym, ap, _∙_, subst}
+use mathlib.Core.Path.{_≡_, refl, sym, ap, _∙_}
 use mathlib.Core.Bool.{Bool, true, false, not, _&&_, _||_, cond}
 use mathlib.Core.List.{List, [], _∷_}
 use Prim.Native.Nat.{ℕ, zero, suc, _+_, _-_, _*_, _%_, _^_, _≤_, _<_}
@@ -13,18 +13,15 @@ use borrow.Author.Needs.{needs}
 use borrow.Author.Tests.{lt-ltb, le-ltb, le-leb, lt-leb, eq-eqb, ne-eqb, ltb-true, ltb-false, leb-true, leb-false, eqb-true, not-false}
 use Rattle.ground.specs.First.{first, some, None}
 use Rattle.ground.proofs.FirstLaws.{by-call, first-turn, first-stop, first-none, first-low, first-before, first-bad, past-none, none-past, first-same, some-at, some-none, some-turn, some-done, some-goes, some-stops, some-ends}
+use Rattle.ground.proofs.TestLaws.{and-true, or-of, rises-by}
 use Rattle.columns.specs.Refusals.{tell, done}
 use Rattle.columns.specs.Columns.{Columns, firstIn, endIn, falls}
 use Rattle.columns.specs.Unchecked.{RunThere}
 use Rattle.columns.proofs.CheckLaws.{or-false}
-use Rattle.blocks.proofs.LookupRules.{and-true}
 use Rattle.plan.specs.Spans.{inChunk, Spread}
 use Rattle.products.specs.Orders.{spansTold, entryOut, spanBad, chunkBad, startsBad, planBad}
 use Rattle.products.specs.Side.{sideNumber}
 use Rattle.products.specs.PlanCheck.{rowsOnly, rowOut, endsOut, inColumn, narrowed, shapeOut, shapeOutAt, rowsOutAt, rowsStop, rowsStopAt, spanOut, spanOutAt, Risen, Window, SomeThere, FewThere, EntriesThere, StartsThere, SpansThere, ChunkThere, ChunksThere, PlanThere}
-
-pub or-of : (b t u : Bool) → t ≡ u → (b || t) ≡ (b || u)
-or-of b t u e = rw e
 
 or-none : (b : Bool) → (b || false) ≡ b
 or-none true = refl
@@ -441,15 +438,9 @@ starts-rise chunks starts n e =
     }
 
 module _ (starts : List ℕ) (chunks n : ℕ) (r : Rising starts chunks n) where
-  rises-by : (i d : ℕ) → i + d ≤ chunks → getD starts i 0 ≤ getD starts (i + d) 0
-  rises-by i zero l = le-of-eq (ap (λ (k : ℕ). getD starts k 0) (omega arith))
-  rises-by i (suc d) l =
-      let e : i + d + 1 ≡ i + suc d = omega arith in
-      le-trans (rises-by i d (omega arith)) (subst (λ (k : ℕ). getD starts (i + d) 0 ≤ getD starts k 0) e (r .rises (i + d) (omega arith)))
-
   -- each of them is at most n
   pub rising-within : (c : ℕ) → c ≤ chunks → getD starts c 0 ≤ n
-  rising-within c l = let e : c + (chunks - c) ≡ chunks = omega arith in le-trans (rises-by c (chunks - c) (omega arith)) (le-of-eq (ap (λ (k : ℕ). getD starts k 0) e ∙ r .ends))
+  rising-within c l = let e : c + (chunks - c) ≡ chunks = omega arith in le-trans (rises-by starts chunks (r .rises) c (chunks - c) (omega arith)) (le-of-eq (ap (λ (k : ℕ). getD starts k 0) e ∙ r .ends))
 
   pub record Between (k : ℕ) : Type 0 where
     pub chunk : ℕ
