@@ -51,7 +51,7 @@ module _ (nrows : ℕ) (rows : List ℕ) where
   bad p = rowBad nrows rows 0 p
 
   -- what the walk knows at its place
-  pub record Walked : Type 0 where
+  pub record WalkedTo : Type 0 where
     pub at : ℕ
     pub least : ℕ
     -- it is a number of the machine's
@@ -61,10 +61,10 @@ module _ (nrows : ℕ) (rows : List ℕ) where
     -- no row before is bad
     pub rest : first bad at (length rows) ≡ first bad 0 (length rows)
 
-  abbrev pub walk-start : Walked
+  abbrev pub walk-start : WalkedTo
   walk-start = record { at = 0; least = 0; fits = lit< tt; inside = omega arith; floor = least-first rows; rest = refl }
 
-  module _ (w : Walked) where
+  module _ (w : WalkedTo) where
     abbrev Stops : Bool → Type 0
     Stops b = stopsAt nrows (w .least) (stepAt rows (w .at)) ≡ b
 
@@ -94,7 +94,7 @@ module _ (nrows : ℕ) (rows : List ℕ) where
     unfolding aboveOf
     floor-next least e s = rw (lt-ltb _ _ (walk-goes s)) at e ∙ least-next rows (w .at)
 
-    abbrev pub walk-turn : (least : ℕ) → least < 2 ^ 64 → least ≡ aboveOf (stepAt rows (w .at)) → Stops false → Walked
+    abbrev pub walk-turn : (least : ℕ) → least < 2 ^ 64 → least ≡ aboveOf (stepAt rows (w .at)) → Stops false → WalkedTo
     walk-turn least f e s = record {
       at = w .at + 1;
       least = least;

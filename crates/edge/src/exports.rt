@@ -1,4 +1,5 @@
 // The three calls that the host makes each night, one export a call: it passes the call on and carries its answer across.
+// Every pointer is valid for its length, and what a call may change overlaps nothing else that it is lent: the proofs assume it.
 use crate::cross::cross_answer;
 use crate::cross::cross_plan;
 use plan::structure::plan;

@@ -82,7 +82,6 @@ abbrev pub lastRows : List Float
 lastRows = minus 0 ∷ f 1 ∷ f 0 ∷ minus 3 ∷ f 3 ∷ []
 
 -- what the operator is lent, with a damping
-
 abbrev pub operands : List Float → Operands
 operands d = record { v = v; inverses = half ∷ quarter ∷ []; d = d; kept = keptLists; elims = elimsLists }
 

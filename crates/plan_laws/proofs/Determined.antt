@@ -1,5 +1,5 @@
--- Any two outcomes that the promise of a public function permits agree; and from the promise of `plan` with answer 0 its buffers are the plan's, with
--- 10 exactly if some row has entries of two eliminated blocks. `Post` is the contract's own reading, at the arguments a, the answer and the
+-- Any two outcomes that the promise of a public function permits agree; and from the promise of `plan`, where columns, blocks, chunk length and room are
+-- sound: 10 exactly if some row has entries of two eliminated blocks, and else 0 with the counts, and its buffers are the plan's. `Post` is the contract's own reading, at the arguments a, the answer and the
 -- parameters at exit. Assumes nothing.
 use mathlib.Core.Path.{_≡_, refl, sym, ap, _∙_}
 use mathlib.Core.Bool.{cond}

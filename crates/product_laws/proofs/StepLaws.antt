@@ -53,7 +53,6 @@ ran-next sign m s v order w i h =
 -- ---- a step's map
 
 -- a buffer with room passes 6
-
 pub one-room : (n k : ℕ) → k ≤ n → noRoom (n ∷ k ∷ []) ≡ done
 one-room n k h = room-done (n ∷ k ∷ []) fine
   where

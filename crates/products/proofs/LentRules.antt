@@ -70,7 +70,6 @@ pub record LentPassed (m : Columns) (kept elims map pairs end : List ℕ) : Type
   pub told : record { told = done; map = end } ≡ lent m kept elims map pairs
 
 -- a is what `check_blocks` answered, and left the map that it left
-
 module _ (m : Columns) (kept elims map : List ℕ) (a : Answer) (left : List ℕ) (e : record { told = told a; map = left } ≡ checkBlocks m kept elims map) where
   pub first-refused : (pairs : List ℕ) (r : Refusal) → a ≡ Refused r → record { told = refused r; map = left } ≡ lent m kept elims map pairs
   unfolding lentTold

@@ -175,8 +175,8 @@ module _ (e : Bool) (m : Columns) (kept elims : List ℕ) (len : ℕ) (map : Lis
       filled : map′ ≡ chunkedLeft done m kept elims len map
       filled = map-is ∙ rw d
 
-      marks : (r : Refusal) (k : ℕ) (map₂ : List ℕ) → k ≡ columnCount m → map₂ ≡ marked k map′ → map₂ ≡ chunkedLeft (refused r) m kept elims len map
-      marks r k map₂ = mark-left m kept elims len map early map′ (filled ∙ left-done m kept elims len map early) r k map₂
+      marks-left : (r : Refusal) (k : ℕ) (map₂ : List ℕ) → k ≡ columnCount m → map₂ ≡ marked k map′ → map₂ ≡ chunkedLeft (refused r) m kept elims len map
+      marks-left r k map₂ = mark-left m kept elims len map early map′ (filled ∙ left-done m kept elims len map early) r k map₂
 
       pub plan-fits : PlanFits (m .rows) (length (m .values)) (length v) (length y) s (length p)
       plan-fits = checked-plan e m kept elims len map (length v) s (length y) (length p) checks-pass
@@ -201,7 +201,7 @@ module _ (e : Bool) (m : Columns) (kept elims : List ℕ) (len : ℕ) (map : Lis
               pass-refused r (sweptOn (signOf e) y (spanTerms m s v (getD (s .starts) c 0 + getD p c 0))) y,
               pass-refused r (set p c (getD p c 0 + 1)) p,
             )
-            (ap (λ (w : Told × List ℕ). record { told = w .0; map = w .1; rows = y; progress = p }) (cc (z, marks r k map₂ a b)))
+            (ap (λ (w : Told × List ℕ). record { told = w .0; map = w .1; rows = y; progress = p }) (cc (z, marks-left r k map₂ a b)))
           where
             go : (b : Bool) → not b ≡ true → b ≡ false
             go true z = let w : _≡_ {A = ℕ} 0 1 = cc z in absurd (omega arith)
@@ -254,7 +254,7 @@ module _ (e : Bool) (m : Columns) (kept elims : List ℕ) (len : ℕ) (map : Lis
               pass-refused r (listOf (spanCount s) (chunkCount (m .nrows) len)) (replicate (chunkCount (m .nrows) len) 0),
               z,
             )
-            (ap (λ (l : List ℕ). record { told = refused r; map = l; rows = y; progress = replicate (chunkCount (m .nrows) len) 0 }) (marks r k map₂ a b))
+            (ap (λ (l : List ℕ). record { told = refused r; map = l; rows = y; progress = replicate (chunkCount (m .nrows) len) 0 }) (marks-left r k map₂ a b))
 
         module _ (q : o ≡ Done) where
           order-good : badOrder (length p) s order ≡ done

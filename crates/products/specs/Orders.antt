@@ -69,7 +69,7 @@ unfoldable pub served : List ℕ → ℕ → ℕ → ℕ
 served order c zero = 0
 served order c (suc i) = served order c i + cond (eqb (getD order i 0) c) 1 0
 
--- chunk c exists and has a span left once `done` of them are done
+-- chunk c exists and has a span left once d of them are done
 unfoldable pub hasNext : ℕ → Spread → ℕ → ℕ → Bool
 hasNext chunks s c d = ltb c chunks && ltb d (spanCount s c)
 
@@ -98,7 +98,7 @@ orderTerms m s v order =
 abbrev pub signOf : Bool → Sign
 signOf e = cond e Minus Plus
 
--- 1 to 6, with a chunk length and a map, then 7 to 9
+-- 1 to 6, with a chunk length and a map
 abbrev pub earlyChunked : Columns → List ℕ → List ℕ → ℕ → List ℕ → Told
 earlyChunked m kept elims len map = partsTold m kept elims (orElse (chunkTold len) (noRoom (length map ∷ columnCount m ∷ [])))
 

@@ -53,7 +53,7 @@ module _ (κs : Lfts 22) (a : _) (t : _) (q : Planned) (post : plan.Post κs a q
     pub is-10 : toldPlan q .number ≡ 10
 
   -- no row has, and the answer is 0 with both counts
-  pub record Made : Type 0 where
+  pub record Answered : Type 0 where
     pub apart : Connects (planColumns κs a) (planElims κs a) → ⊥
     pub answer : q ≡ Done (spans false) (spans true)
 
@@ -65,7 +65,7 @@ module _ (κs : Lfts 22) (a : _) (t : _) (q : Planned) (post : plan.Post κs a q
     pub whole : told w ≡ done → Undivided (sweepSide λs b) (sweepOver λs b) (sweepVector λs b) (startRows (sweepSide λs b) (sweepRows λs b)) (sweepTermsOf λs b) (sweepRowsLeft λs u)
 
   pub record Sweeps : Type 0 where
-    pub made : Made
+    pub answered : Answered
     pub each : (λs : Lfts 14) (b : ArgsD sweeping.signature λs) (u : AtExit (endedOf 14 sweepKinds.ps sweepKinds.r) λs) (w : Answer) → sweep.Post λs b w u
         → sweepOver λs b ≡ over (sweepSide λs b)
         → SweepFits (sweepOver λs b .columns) (overSide (sweepSide λs b) (sweepOver λs b)) (sweepOver λs b .len) (sweepMap λs b) (sweepVector λs b) (sweepRows λs b) (sweepProgress λs b)
@@ -77,48 +77,48 @@ module _ (κs : Lfts 22) (a : _) (t : _) (q : Planned) (post : plan.Post κs a q
     pub whole : Undivided e (over e) v y (termsOf λs b u (length order)) (rowsAfter λs b u y (length order))
 
   pub record Steps : Type 0 where
-    pub made : Made
+    pub answered : Answered
     pub each : (λs : ℕ → Lfts 13) (b : (i : ℕ) → ArgsD stepping.signature (λs i)) (u : (i : ℕ) → AtExit (endedOf 13 stepKinds.ps stepKinds.r) (λs i)) (w : ℕ → Answer) (e : Bool) (v : List Float) (order : List ℕ) (y : List Float)
         → ((i : ℕ) → i < length order → step.Post (λs i) (b i) (w i) (u i)) → Chain λs b u e (over e) v order y → VectorsFit e (over e) v y → ServesOver (over e) order
         → StepsGood λs b u w e v order y
 
   -- columns and blocks keep the rules, the chunk length is good, and no buffer is too short
   module _ (sound : Sound (planColumns κs a) (planKept κs a) (planElims κs a) (planLen κs a) (planLent κs a)) where
-    refused-or-made : Refused ⊎ Made
-    refused-or-made = go (connects-or-not (planColumns κs a) (planElims κs a))
+    refused-or-answered : Refused ⊎ Answered
+    refused-or-answered = go (connects-or-not (planColumns κs a) (planElims κs a))
       where
-        go : Connects (planColumns κs a) (planElims κs a) ⊎ (Connects (planColumns κs a) (planElims κs a) → ⊥) → Refused ⊎ Made
+        go : Connects (planColumns κs a) (planElims κs a) ⊎ (Connects (planColumns κs a) (planElims κs a) → ⊥) → Refused ⊎ Answered
         go (inl c) = inl (record { connects = c; is-10 = plan-refuses κs a t q post sound c })
         go (inr ne) = inr (record { apart = ne; answer = plan-answers κs a t q post sound ne })
 
     -- the promise of the call, with the answer that it gives
-    answered : Made → plan.Post κs a (Done (spans false) (spans true)) t
-    answered x = subst (λ (w : Planned). plan.Post κs a w t) (x .answer) post
+    promised : Answered → plan.Post κs a (Done (spans false) (spans true)) t
+    promised x = subst (λ (w : Planned). plan.Post κs a w t) (x .answer) post
 
     pub demand-3-sweeps : Refused ⊎ Sweeps
-    demand-3-sweeps = go refused-or-made
+    demand-3-sweeps = go refused-or-answered
       where
-        go : Refused ⊎ Made → Refused ⊎ Sweeps
+        go : Refused ⊎ Answered → Refused ⊎ Sweeps
         go (inl x) = inl x
         go (inr x) =
             inr
             (record {
-              made = x;
+              answered = x;
               each = λ λs b u w p same f.
-                  (let l = lent-carried κs a t (spans false) (spans true) (answered x) (sweepSide λs b) (sweepOver λs b) same in
+                  (let l = lent-carried κs a t (spans false) (spans true) (promised x) (sweepSide λs b) (sweepOver λs b) same in
                   record { accepted = serves-sweep λs b u w p l f; served = sweep-serves λs b u w p l; whole = sweep-whole λs b u w p l });
             })
 
     pub demand-3-steps : Refused ⊎ Steps
-    demand-3-steps = go refused-or-made
+    demand-3-steps = go refused-or-answered
       where
-        go : Refused ⊎ Made → Refused ⊎ Steps
+        go : Refused ⊎ Answered → Refused ⊎ Steps
         go (inl x) = inl x
         go (inr x) =
             inr
             (record {
-              made = x;
+              answered = x;
               each = λ λs b u w e v order y p c f s.
-                  (let l = lent-carried κs a t (spans false) (spans true) (answered x) e (over e) refl in
+                  (let l = lent-carried κs a t (spans false) (spans true) (promised x) e (over e) refl in
                   record { accepted = steps-done λs b u w e (over e) v order y p c l f s; whole = steps-whole λs b u w e (over e) v order y p c l f s });
             })

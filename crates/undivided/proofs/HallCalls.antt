@@ -23,10 +23,13 @@ use Rattle.columns.specs.Columns.{firstIn, endIn, tooBig, falls, badShape, rowB
 use Rattle.columns.specs.Sums.{joined, landed}
 use Rattle.columns.specs.JacobianOps.{landing, landings}
 use Rattle.blocks.specs.Sides.{blockColumns, offsetOf}
-use Rattle.blocks.specs.Claims.{tooMany, isOdd, listsTold, emptySide, blockClaims, placeOf, claimBad, walkTold, gapTold}
-use Rattle.plan.specs.declared.structure.Planned.the-variants.{Done}
+use Rattle.blocks.specs.Claims.{mark, tooMany, isOdd, listsTold, emptySide, blockClaims, placeOf, claimBad, walkTold, gapTold}
+use Rattle.plan.specs.declared.structure.Planned.the-variants.{Done, Refused as Refused₁₀}
+use Rattle.columns.specs.declared.refusal.Refusal.the-variants.{Connected}
+use Rattle.plan.specs.Owners.{entryAt, columnEntries, blockEntries, holder, clashes, connectedTold}
+use Rattle.plan_laws.proofs.ConnectedLaws.{told-connects}
 use Rattle.plan.specs.Spans.{chunkTold, chunkCount, inChunk, placeIn, pastLast, columnSpan, localSpans, Spread}
-use Rattle.plan.specs.Plan.{Buffers}
+use Rattle.plan.specs.Plan.{Buffers, lent as lentBack}
 use Rattle.plan.proofs.structure.plan as planning
 use Rattle.plan.proofs.structure.plan.Kinds as planKinds
 use Rattle.plan.proofs.structure.plan.Reads as plan
@@ -43,8 +46,8 @@ use Rattle.products.proofs.order.sweep.Reads as sweep
 use Rattle.products.proofs.order.step as stepping
 use Rattle.products.proofs.order.step.Kinds as stepKinds
 use Rattle.products.proofs.order.step.Reads as step
-use Rattle.hall.specs.Hall.{f, hall, kept, elims, owners, rowLists, visible, keptLists, elimsLists, v, firstRows, t, u, lastRows, minus, operands, unusedMap, unusedBuffers, unusedWork}
-use Rattle.hall.specs.Table.{filled, planLists}
+use Rattle.hall.specs.Hall.{f, hall, moved, kept, elims, owners, rowLists, visible, keptLists, elimsLists, v, firstRows, t, u, lastRows, minus, operands, unusedMap, unusedBuffers, unusedWork}
+use Rattle.hall.specs.Table.{filledMap, markedMap, planLists}
 use Rattle.hall.proofs.HallTable.{hall-table}
 use Rattle.blocks.specs.Access.{squareOf, squaresBefore}
 use Rattle.undivided.specs.Plain.{plainOperated}
@@ -66,14 +69,17 @@ x ▸ y = (x, y)
 -- ---- the call of `plan`
 
 module _ (κs : Lfts 22) where
-  -- the hall with chunks of two rows, and these buffers: before the call, and as it leaves them
-  abbrev planCall : Buffers → ArgsD planning.signature κs
-  planCall b =
-      hall .nrows ▸ slice (hall .ptrs) ▸ slice (hall .rows) ▸ slice (hall .values) ▸ slice kept ▸ slice elims ▸ 2 ▸ slice (b .map) ▸
+  -- columns with the hall's blocks and chunks of two rows, and these buffers: before the call, and as it leaves them
+  abbrev planOn : Columns → Buffers → ArgsD planning.signature κs
+  planOn m b =
+      m .nrows ▸ slice (m .ptrs) ▸ slice (m .rows) ▸ slice (m .values) ▸ slice kept ▸ slice elims ▸ 2 ▸ slice (b .map) ▸
       slice (b .keptCols) ▸ slice (b .elimsCols) ▸ slice (b .elimsBlocks) ▸ slice (b .owners) ▸ slice (b .rowLists .list) ▸
       slice (b .rowLists .starts) ▸ slice (b .visible .list) ▸ slice (b .visible .starts) ▸ slice (b .kept .starts) ▸
       slice (b .kept .lo) ▸ slice (b .kept .hi) ▸ slice (b .kept .local) ▸ slice (b .elims .starts) ▸ slice (b .elims .lo) ▸
       slice (b .elims .hi) ▸ slice (b .elims .local) ▸ tt
+
+  abbrev planCall : Buffers → ArgsD planning.signature κs
+  planCall b = planOn hall b
 
   pub hall-planned : plan.Post κs (planCall unusedBuffers) (Done 3 3) (planCall planLists)
   hall-planned = sym (hall-table .plan)
@@ -95,6 +101,17 @@ module _ (κs : Lfts 22) where
       go (inl x) = absurd (hall-unconnected (x .connects))
       go (inr x) = x
 
+  -- case 6, where column 2 is moved, is the other branch: two eliminated blocks have entries in a row, and the answer is 10
+  abbrev afterTen : Buffers
+  afterTen = lentBack markedMap (mark ∷ mark ∷ mark ∷ mark ∷ mark ∷ []) unusedBuffers
+
+  pub moved-planned : plan.Post κs (planOn moved unusedBuffers) (Refused₁₀ (Connected 1 0)) (planOn moved afterTen)
+  moved-planned = sym (hall-table .connected)
+
+  pub moved-refused : Refused κs (planOn moved unusedBuffers) (planOn moved afterTen) (Refused₁₀ (Connected 1 0)) moved-planned
+  unfolding firstN first gatherN gather firstIn endIn entryAt columnEntries blockEntries holder clashes connectedTold
+  moved-refused = record { connects = told-connects moved elims refl; is-10 = refl }
+
 -- ---- calls of `sweep`, `step` and `apply_schur_operator` over what it left
 
 -- rows that are not 0
@@ -102,24 +119,24 @@ abbrev ones : List Float
 ones = replicate 5 (f 1)
 
 -- what differs from call to call
-record Work : Type 0 where
+record Lent : Type 0 where
   map : List ℕ
   rows : List Float
   progress : List ℕ
 
 module _ (κs : Lfts 14) where
   -- a sweep of a side along that order, with its map, rows and progress before the call, and as it leaves them
-  abbrev sweepCall : Side → List Float → Spread → Work → ArgsD sweeping.signature κs
+  abbrev sweepCall : Side → List Float → Spread → Lent → ArgsD sweeping.signature κs
   sweepCall e x s w =
       e ▸ hall .nrows ▸ slice (hall .ptrs) ▸ slice (hall .rows) ▸ slice (hall .values) ▸ slice kept ▸ slice elims ▸ slice (w .map) ▸
       2 ▸ slice x ▸ slice (s .starts) ▸ slice (s .lo) ▸ slice (s .hi) ▸ slice (s .local) ▸ slice (w .rows) ▸ slice (w .progress) ▸
       slice order ▸ tt
 
   -- the kept sweep clears the rows that it is lent; the eliminated one goes on from them
-  abbrev before : List Float → Work
+  abbrev before : List Float → Lent
   before y = record { map = replicate 4 7; rows = y; progress = replicate 3 7 }
 
-  abbrev after : List Float → Work
+  abbrev after : List Float → Lent
   after y = record { map = 0 ∷ 1 ∷ 2 ∷ 7 ∷ []; rows = y; progress = 1 ∷ 1 ∷ 1 ∷ [] }
 
   pub kept-swept : sweep.Post κs (sweepCall side.Kept v keptLists (before ones)) answer.Done (sweepCall side.Kept v keptLists (after firstRows))
@@ -146,7 +163,7 @@ module _ (κs : Lfts 14) where
 
 module _ (κs : ℕ → Lfts 13) where
   -- a step of a side, of the chunk at a place of that order
-  abbrev stepCall : (i : ℕ) → Side → List Float → Spread → Work → ArgsD stepping.signature (κs i)
+  abbrev stepCall : (i : ℕ) → Side → List Float → Spread → Lent → ArgsD stepping.signature (κs i)
   stepCall i e x s w =
       e ▸ hall .nrows ▸ slice (hall .ptrs) ▸ slice (hall .rows) ▸ slice (hall .values) ▸ slice kept ▸ slice elims ▸ slice (w .map) ▸ 2 ▸
       slice x ▸ slice (s .starts) ▸ slice (s .lo) ▸ slice (s .hi) ▸ slice (s .local) ▸ slice (w .rows) ▸ slice (w .progress) ▸ getD order i 0 ▸ tt
@@ -163,13 +180,13 @@ module _ (κs : ℕ → Lfts 13) where
   elimsRows = firstRows ∷ (f 2 ∷ f 4 ∷ f 0 ∷ f 6 ∷ f 3 ∷ []) ∷ (minus 0 ∷ f 1 ∷ f 0 ∷ f 6 ∷ f 3 ∷ []) ∷ lastRows ∷ []
 
   -- what the step of place i is lent, a map of its own among it, and what it leaves
-  abbrev lent : List (List Float) → ℕ → Work
+  abbrev lent : List (List Float) → ℕ → Lent
   lent table i = record { map = replicate 3 i; rows = getD table i []; progress = getD counts i [] }
 
-  abbrev left : List (List Float) → ℕ → Work
-  left table i = record { map = filled; rows = getD table (suc i) []; progress = getD counts (suc i) [] }
+  abbrev left : List (List Float) → ℕ → Lent
+  left table i = record { map = filledMap; rows = getD table (suc i) []; progress = getD counts (suc i) [] }
 
-  abbrev keptCall : (ℕ → Work) → (i : ℕ) → ArgsD stepping.signature (κs i)
+  abbrev keptCall : (ℕ → Lent) → (i : ℕ) → ArgsD stepping.signature (κs i)
   keptCall w i = stepCall i side.Kept v keptLists (w i)
 
   -- each of the three keeps its promise
@@ -180,7 +197,7 @@ module _ (κs : ℕ → Lfts 13) where
   kept-stepped (suc (suc zero)) h = refl
   kept-stepped (suc (suc (suc i))) h = absurd (omega arith)
 
-  abbrev elimsCall : (ℕ → Work) → (i : ℕ) → ArgsD stepping.signature (κs i)
+  abbrev elimsCall : (ℕ → Lent) → (i : ℕ) → ArgsD stepping.signature (κs i)
   elimsCall w i = stepCall i side.Eliminated u elimsLists (w i)
 
   -- each of the three keeps its promise
@@ -246,7 +263,7 @@ module _ (κs : Lfts 21) where
   abbrev results : Results
   results = record { rows = lastRows; t = t; u = u; out = f 1 ∷ [] }
 
-  pub hall-operated : operator.Post κs (operatorCall unusedMap (operands []) unusedWork) answer.Done (operatorCall filled (operands []) results)
+  pub hall-operated : operator.Post κs (operatorCall unusedMap (operands []) unusedWork) answer.Done (operatorCall filledMap (operands []) results)
   hall-operated = sym (hall-table .operator)
 
   pub hall-fits : OperatorFits hall kept elims unusedMap (operands []) unusedWork
@@ -257,7 +274,7 @@ module _ (κs : Lfts 21) where
   pub hall-plain : Lfts 22 → results ≡ plainOperated hall kept elims v (operands [] .inverses) []
   unfolding first firstN gather gatherN firstIn endIn blockColumns offsetOf chunkCount inChunk placeIn pastLast columnSpan localSpans
   hall-plain πs =
-      planned-operator πs (planCall πs unusedBuffers) (planCall πs planLists) 3 3 (hall-planned πs) κs (operatorCall unusedMap (operands []) unusedWork) (operatorCall filled (operands []) results) answer.Done hall-operated same refl
+      planned-operator πs (planCall πs unusedBuffers) (planCall πs planLists) 3 3 (hall-planned πs) κs (operatorCall unusedMap (operands []) unusedWork) (operatorCall filledMap (operands []) results) answer.Done hall-operated same refl
     where
       same : (e : Bool) → operatorOver κs (operatorCall unusedMap (operands []) unusedWork) e ≡ planOver πs (planCall πs unusedBuffers) (planCall πs planLists) 3 3 e
       same true = refl

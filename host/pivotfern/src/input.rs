@@ -1,6 +1,6 @@
-//! What a caller lends: columns, sides, both as a system, a side's spans, damping, a sweep. Nothing here is checked, since every call checks what it is lent and
-//! refuses with a number. What is counted here is counted without overflow and never past document 01's limits: a call refuses what
-//! is past them (TooBig) before it looks at any room, so no more is ever needed.
+//! What a caller lends: columns, sides, both as a system, a side's spans, damping, a sweep. Nothing here is checked, since every call checks
+//! what it is lent and refuses with a number. What is counted here is counted without overflow and never past document 01's limits: a
+//! call refuses what is past them (TooBig) before it looks at any room, so no more is ever needed.
 
 /// The most rows.
 pub const MOST_ROWS: usize = 1_048_576;

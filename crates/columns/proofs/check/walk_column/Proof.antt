@@ -1,6 +1,6 @@
 -- `columns::check::walk_column` meets its contract: a walk of its MIR, by hand. One reader is kept in a local, and each turn of the loop asks
 -- what it has come to and stores the moved reader in its place.
--- A turn starts from `Inv`: the reader of s at a place, the least row that may stand there, and what is known of both (`Walked`). It returns the
+-- A turn starts from `Inv`: the reader of s at a place, the least row that may stand there, and what is known of both (`WalkedTo`). It returns the
 -- place at a bad row or at the end. Else the next turn starts one place on, with fewer rows left: that is why the loop ends.
 -- A reader is Copy: what it owns is had twice, and one copy goes to the function called. What a number, a truth value or a step owns is made
 -- anew from its facts. All that the proof knows of the five functions called is that each meets its contract.
@@ -55,7 +55,7 @@ use Rattle.columns.specs.Columns.{rowBad}
 use Rattle.columns.specs.Reader.{stepAt, stopsAt, aboveOf}
 use Rattle.columns.specs.declared.reader.ColumnReader.{ColumnReader}
 use Rattle.columns.specs.declared.reader.Step.{Step}
-use Rattle.columns.proofs.ReaderLaws.{Walked, walk-start, walk-stops, walk-goes, walk-turn}
+use Rattle.columns.proofs.ReaderLaws.{WalkedTo, walk-start, walk-stops, walk-goes, walk-turn}
 use Rattle.columns.proofs.reader.ColumnReader as T
 use Rattle.columns.proofs.reader.ColumnReader.Laws as T′
 use Rattle.columns.proofs.reader.Step as S
@@ -266,27 +266,27 @@ module _ {M : Type 1} (𝓤 : URA M) (H : Heap 𝓤) (A : Atoms 𝓤) (W : Given
           ∷ ‵ (fdies word l₀) ∷ ‵ (fdies word l₁) ∷ ‵ (fdies slice l₂) ∷ ‵ (fdies held l₃) ∷ ‵ (fdies word l₄) ∷ ‵ (fdies S′.mir l₅) ∷ ‵ (fdies held l₆) ∷ ‵ (fdies tyBool l₇) ∷ ‵ (fdies held l₈) ∷ []
 
       -- what a turn starts from: the reader at its place, and the least row that may stand there
-      abbrev Inv : Walked n (now s) → List (Item 𝓤)
+      abbrev Inv : WalkedTo n (now s) → List (Item 𝓤)
       Inv w = ‵ (OwnR (w .at)) ∷ ‵ (fat fullShare held l₃ 0 (mach (w .at))) ∷ ‵ (fat fullShare word l₄ 0 (vint w64 (w .least)))
           ∷ ‵ (froom S′.mir l₅ 0) ∷ ‵ (froom held l₆ 0) ∷ ‵ (froom tyBool l₇ 0) ∷ ‵ (froom held l₈ 0) ∷ (‵ (flft κ q) ⊛ ‵ ftrue) ∷ Frame
 
       -- what a turn has once its test is told: the step t with the machine value u, and the test b
-      abbrev Tested : Walked n (now s) → Val → Bool → List (Item 𝓤)
+      abbrev Tested : WalkedTo n (now s) → Val → Bool → List (Item 𝓤)
       Tested w u b = (‵ (flft κ q) ⊛ ‵ ftrue) ∷ ‵ (OwnR (w .at)) ∷ ‵ (fat fullShare held l₃ 0 (mach (w .at))) ∷ ‵ (fat fullShare word l₄ 0 (vint w64 (w .least)))
           ∷ ‵ (fat fullShare S′.mir l₅ 0 u) ∷ ‵ (fat fullShare held l₆ 0 (mach (w .at))) ∷ ‵ (fat fullShare tyBool l₇ 0 (vbool b)) ∷ ‵ (froom held l₈ 0) ∷ Frame
 
       -- fewer rows are left
-      abbrev Less : Walked n (now s) → Walked n (now s) → Type 0
+      abbrev Less : WalkedTo n (now s) → WalkedTo n (now s) → Type 0
       Less w w′ = length (now s) - w .at < length (now s) - w′ .at
 
       ends : WellFounded Less
-      ends = InvImage·wf (λ (w : Walked n (now s)). length (now s) - w .at) (Nat·lt-wfRel .wf)
+      ends = InvImage·wf (λ (w : WalkedTo n (now s)). length (now s) - w .at) (Nat·lt-wfRel .wf)
 
       -- where the loop is left, and where a turn is
       abbrev Left : Out → SProp 𝓤
       Left = afterBlock 𝓤 H (afterSeq 𝓤 H (Wp 𝓤 H C Λ En return (atReturn 𝓤 H En Post)) (atReturn 𝓤 H En Post))
 
-      abbrev After : Walked n (now s) → Out → SProp 𝓤
+      abbrev After : WalkedTo n (now s) → Out → SProp 𝓤
       After w = afterTurn 𝓤 H (Below 𝓤 H A Less Inv w) Left
 
       -- a turn's code past its test, and within it
@@ -296,7 +296,7 @@ module _ {M : Type 1} (𝓤 : URA M) (H : Heap 𝓤) (A : Atoms 𝓤) (W : Given
       abbrev out : Body
       out = seq (assign (place 0 []) (rvOpd (copy (place 3 (field 1 ∷ []))))) return
 
-      module _ (w : Walked n (now s)) (wt : Holds (hasTy held (mach (w .at))) × WT (mach (w .at))) (t : Step) (u : Val) (is : Is S.the-row t (u ∷ [])) (e : t ≡ stepAt (now s) (w .at)) (b : Bool) (e₂ : b ≡ stopsAt n (w .least) t) where
+      module _ (w : WalkedTo n (now s)) (wt : Holds (hasTy held (mach (w .at))) × WT (mach (w .at))) (t : Step) (u : Val) (is : Is S.the-row t (u ∷ [])) (e : t ≡ stepAt (now s) (w .at)) (b : Bool) (e₂ : b ≡ stopsAt n (w .least) t) where
         -- the test holds: the reader's place is returned
         leaves : Holds b → Seq (Go {0}) W (Tested w u b) (runs C Λ En out (anyQ (afterSeq 𝓤 H (Wp 𝓤 H C Λ En on (After w)) (After w))))
         unfolding afterTurn
@@ -342,7 +342,7 @@ module _ {M : Type 1} (𝓤 : URA M) (H : Heap 𝓤) (A : Atoms 𝓤) (W : Given
             less : length (now s) - (w .at + 1) < length (now s) - w .at
             less = omega (arith, inside)
 
-      turn : (w : Walked n (now s)) → Seq (Go {0}) W (Inv w) (runs C Λ En turn-1 (anyQ (After w)))
+      turn : (w : WalkedTo n (now s)) → Seq (Go {0}) W (Inv w) (runs C Λ En turn-1 (anyQ (After w)))
       unfolding afterTurn
       turn w =
           peeks ! (B (κ, tt)) (Is (B (κ, tt))) (shows 𝓤 H A (B (κ, tt))) (here (w .at)) (mach (w .at) ∷ []) (λ is.
