@@ -1,4 +1,4 @@
--- `hall::calls::plan_hall` meets its contract. Assumes nothing.
+-- `calls::plan_hall` lends the plan arrays of the hall's sizes: what the plan promises is what is asked. Assumes nothing.
 use lib.Ieee.{ofInt, ofBits}
 use borrow.Author.Needs.{needs}
 use Rattle.hall.proofs.calls.plan_hall.Statement.{statement}
@@ -6,7 +6,9 @@ use Rattle.hall.proofs.calls.plan_hall.Tie as tie
 
 returns : tie.Need-returns
 unfolding ofInt ofBits
-returns c = c .before .before .before .before .before .before .before .before .before .before .before .before .before .before .before .before .before .plan .ensures
+returns c =
+    let p : tie.After-plan = search in
+    p .plan .ensures
 
 pub plan-hall-spec : {M : Type 1} → statement M
 plan-hall-spec =

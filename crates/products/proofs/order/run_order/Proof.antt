@@ -1,4 +1,5 @@
--- `order::run_order` meets its contract. Assumes nothing.
+-- `order::run_order` does one step a turn, for the chunk at the next place of the order. The invariant: the progress counts the places before i,
+-- and the rows with the terms of the places from i on swept into them are the rows with all swept in. Assumes nothing.
 use mathlib.Core.Path.{_≡_, ap, _∙_}
 use Prim.Native.Nat.{_-_, _≤_}
 use native.Mathlib.Omega.{arith}
@@ -18,21 +19,32 @@ Inv-loop sign rows values v starts lo hi local y₀ progress₀ order n i₀ y p
 abbrev μ-loop : tie.MeasureT-loop
 μ-loop sign rows values v starts lo hi local y₀ progress₀ order n i₀ y progress i = length order - i
 
+abbrev start : tie.At-loop Inv-loop μ-loop → tie.Start Inv-loop μ-loop
+start s = search
+
 add-i : tie.Need-add-i Inv-loop μ-loop
-add-i c = omega (arith, c .before .before .before .before .before .before .before .before .before .loop-test .taken, c .before .before .before .before .before .before .before .before .before .before .before .before .before .before .before .before .before .before .before .before .before .good)
+add-i c =
+    let at-in-loop : tie.In-loop Inv-loop μ-loop = search in
+    let s : tie.Start Inv-loop μ-loop = search in
+    omega (arith, at-in-loop .loop-test .taken, s .good)
 
 loop-again : tie.Need-loop-again Inv-loop μ-loop
 loop-again c =
-    let l = c .before .before .before .before .before .before .before .before .before .before in
-    let s = l .before .before .before .before .before .before .before .before .before .before .before in (
+    let at-do-step : tie.After-do-step Inv-loop μ-loop = search in
+    let at-wide : tie.After-wide Inv-loop μ-loop = search in
+    let at-in-loop : tie.In-loop Inv-loop μ-loop = search in
+    let l : tie.At-loop Inv-loop μ-loop = search in
+    let s = start l in (
       omega arith,
       search stepping,
-      run-counts (s .args .rows .now) (length (s .args .values .now)) (length (s .args .v .now)) (length (s .args .y .now)) (length (l .loop .y)) (record { starts = s .args .starts .now; lo = s .args .lo .now; hi = s .args .hi .now; local = s .args .local .now }) (s .args .progress .now) (l .loop .progress) (s .args .order .now) (l .loop .i) (c .before .before .before .before .before .wide .result) (s .pre) (c .before .before .before .before .before .before .before .before .before .loop-test .taken) (l .loop .inv .1) (l .loop .inv .2) (c .before .before .before .before .before .wide .ensures .0) (s .args .sign) (s .args .values .now) (s .args .v .now) (l .loop .y) _ _ (c .before .before .before .before .do-step .ensures),
-      run-turn (s .args .rows .now) (length (s .args .values .now)) (length (s .args .v .now)) (length (s .args .y .now)) (length (l .loop .y)) (record { starts = s .args .starts .now; lo = s .args .lo .now; hi = s .args .hi .now; local = s .args .local .now }) (s .args .progress .now) (l .loop .progress) (s .args .order .now) (l .loop .i) (c .before .before .before .before .before .wide .result) (s .pre) (c .before .before .before .before .before .before .before .before .before .loop-test .taken) (l .loop .inv .1) (l .loop .inv .2) (c .before .before .before .before .before .wide .ensures .0) (s .args .sign) (s .args .values .now) (s .args .v .now) (l .loop .y) _ _ (c .before .before .before .before .do-step .ensures) _ (l .loop .inv .3),
+      run-counts (s .args .rows .now) (length (s .args .values .now)) (length (s .args .v .now)) (length (s .args .y .now)) (length (l .loop .y)) (record { starts = s .args .starts .now; lo = s .args .lo .now; hi = s .args .hi .now; local = s .args .local .now }) (s .args .progress .now) (l .loop .progress) (s .args .order .now) (l .loop .i) (at-wide .wide .result) (s .pre) (at-in-loop .loop-test .taken) (l .loop .inv .1) (l .loop .inv .2) (at-wide .wide .ensures .0) (s .args .sign) (s .args .values .now) (s .args .v .now) (l .loop .y) _ _ (at-do-step .do-step .ensures),
+      run-turn (s .args .rows .now) (length (s .args .values .now)) (length (s .args .v .now)) (length (s .args .y .now)) (length (l .loop .y)) (record { starts = s .args .starts .now; lo = s .args .lo .now; hi = s .args .hi .now; local = s .args .local .now }) (s .args .progress .now) (l .loop .progress) (s .args .order .now) (l .loop .i) (at-wide .wide .result) (s .pre) (at-in-loop .loop-test .taken) (l .loop .inv .1) (l .loop .inv .2) (at-wide .wide .ensures .0) (s .args .sign) (s .args .values .now) (s .args .v .now) (l .loop .y) _ _ (at-do-step .do-step .ensures) _ (l .loop .inv .3),
     )
 
 same-length-2 : tie.Need-same-length-2 Inv-loop μ-loop
-same-length-2 c = ap length (c .before .loop .inv .2) ∙ length-listOf (λ k. served (c .before .before .before .before .before .before .before .before .before .before .before .before .args .order .now) k (c .before .loop .i)) 0 (length (c .before .before .before .before .before .before .before .before .before .before .before .before .args .progress .now))
+same-length-2 c =
+    let s : tie.Start Inv-loop μ-loop = search in
+    ap length (c .before .loop .inv .2) ∙ length-listOf (λ k. served (s .args .order .now) k (c .before .loop .i)) 0 (length (s .args .progress .now))
 
 pub run-order-spec : {M : Type 1} → statement M
 run-order-spec =
