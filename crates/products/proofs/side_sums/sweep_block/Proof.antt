@@ -1,4 +1,5 @@
--- `products::side_sums::sweep_block` meets its contract. Assumes nothing.
+-- `side_sums::sweep_block` sweeps the columns of one block, one a turn. The invariant: the rows with the terms of the columns from l on landed in them are the rows with all
+-- of the block's landed. The block's columns exist, so no sum of places wraps. Assumes nothing.
 use mathlib.Core.Path.{_≡_}
 use Prim.Native.Nat.{_+_, _-_, _≤_}
 use native.Mathlib.Omega.{arith}
@@ -19,47 +20,50 @@ Inv-loop sign ptrs rows values side b at v y₀ first dof l₀ l-end y l = (at �
 abbrev μ-loop : tie.MeasureT-loop
 μ-loop sign ptrs rows values side b at v y₀ first dof l₀ l-end y l = l-end - l
 
+-- ---- the states that the proof speaks of: `search` finds one by its type, and a far one from a nearer
+
+abbrev start : tie.After-wide Inv-loop μ-loop → tie.Start Inv-loop μ-loop
+start s = search
+
+abbrev first-read : tie.After-wide2 Inv-loop μ-loop → tie.After-wide Inv-loop μ-loop
+first-read s = search
+
+abbrev dof-read : tie.In-loop Inv-loop μ-loop → tie.After-wide2 Inv-loop μ-loop
+dof-read s = search
+
+-- ---- what the code asks, and what it returns
+
 add-l-end : tie.Need-add-l-end Inv-loop μ-loop
-add-l-end c =
-    let w = c .before .before in
-    let s = w .before .before .before .before .before .before .before .before in
-    omega (arith, block-in _ _ _ _ _ _ _ _ (s .pre) _ _ (w .wide .ensures .0) (c .wide2 .ensures .0))
+add-l-end c = omega (arith, block-in _ _ _ _ _ _ _ _ (start (first-read c) .pre) _ _ (first-read c .wide .ensures .0) (c .wide2 .ensures .0))
 
 mul-sweep-column : tie.Need-mul-sweep-column Inv-loop μ-loop
-mul-sweep-column c =
-    let d = c .before .before in
-    let w = d .before .before in
-    let s = w .before .before .before .before .before .before .before .before in
-    omega (arith, block-in _ _ _ _ _ _ _ _ (s .pre) _ _ (w .wide .ensures .0) (d .wide2 .ensures .0))
+mul-sweep-column c = omega (arith, block-in _ _ _ _ _ _ _ _ (start (first-read (dof-read c)) .pre) _ _ (first-read (dof-read c) .wide .ensures .0) (dof-read c .wide2 .ensures .0))
 
 shared-slice-read-sweep-column : tie.Need-shared-slice-read-sweep-column Inv-loop μ-loop
 shared-slice-read-sweep-column c =
-    let d = c .before .before .before in
-    let w = d .before .before in
-    let s = w .before .before .before .before .before .before .before .before in
-    omega (arith, block-in _ _ _ _ _ _ _ _ (s .pre) _ _ (w .wide .ensures .0) (d .wide2 .ensures .0))
+    let t : tie.In-loop Inv-loop μ-loop = search in
+    omega (arith, block-in _ _ _ _ _ _ _ _ (start (first-read (dof-read t)) .pre) _ _ (first-read (dof-read t) .wide .ensures .0) (dof-read t .wide2 .ensures .0))
 
+-- what is known at the start is listed: of the many states here `omega` does not reach it by itself
 add-l : tie.Need-add-l Inv-loop μ-loop
 add-l c =
-    let d = c .before .before .before .before .before .before .before in
-    let w = d .before .before in
-    let s = w .before .before .before .before .before .before .before .before in
-    omega (arith, block-in _ _ _ _ _ _ _ _ (s .pre) _ _ (w .wide .ensures .0) (d .wide2 .ensures .0))
+    let t : tie.In-loop Inv-loop μ-loop = search in
+    omega (arith, start (first-read (dof-read t)), block-in _ _ _ _ _ _ _ _ (start (first-read (dof-read t)) .pre) _ _ (first-read (dof-read t) .wide .ensures .0) (dof-read t .wide2 .ensures .0))
 
 loop-again : tie.Need-loop-again Inv-loop μ-loop
 loop-again c =
-    let k = c .before .before in
-    let t = k .before .before .before in
+    let k : tie.After-sweep-column Inv-loop μ-loop = search in
+    let t : tie.In-loop Inv-loop μ-loop = search in
     let l = t .before in
-    let d = l .before in
-    let w = d .before .before in
-    let s = w .before .before .before .before .before .before .before .before in
+    let d = dof-read t in
+    let w = first-read d in
+    let s = start w in
     (search siding, search siding, sweep-turn _ _ _ _ _ _ _ _ (s .pre) _ _ (w .wide .ensures .0) (d .wide2 .ensures .0) (l .loop .l) (l .loop .inv .0) (t .loop-test .taken) _ (s .args .v .now) _ _ _ (l .loop .inv .2) (k .sweep-column .ensures))
 
 returns : tie.Need-returns Inv-loop μ-loop
 returns c =
-    let d = c .before .before in
-    let s = d .before .before .before .before .before .before .before .before .before .before in
+    let d : tie.After-wide2 Inv-loop μ-loop = search in
+    let s = start (first-read d) in
     block-swept (s .args .side .now) (s .args .b) _ _ (d .wide2 .ensures .0) _ _ _ _ (fold-done _ _ (c .loop-test .left) (c .before .loop .inv .2))
 
 pub sweep-block-spec : {M : Type 1} → statement M
