@@ -1,5 +1,5 @@
 #!/usr/bin/env bash
-# No line of a page is above 160 characters, rows of tables apart.
+# No line of a page, a source or a definition is above 160 bytes, rows of tables apart.
 set -euo pipefail
 cd "$(dirname "${BASH_SOURCE[0]}")/.."
 
@@ -13,6 +13,6 @@ trap 'rm "$made"' EXIT
 printf '%0161d\n%0160d\n| %0161d\n' 0 0 0 > "$made"
 [ "$(LC_ALL=C long 160 "$made")" = "$made:1: 161" ] || { echo "pages: the test itself is broken"; exit 1; }
 
-found=$(for f in *.md docs/*.md host/*.md oracle/*.md; do LC_ALL=C.UTF-8 long 160 "$f"; done)
+found=$(for f in *.md docs/*.md host/*.md oracle/*.md crates/*/src/*.rt crates/*/specs/*.antt; do LC_ALL=C long 160 "$f"; done)
 [ -z "$found" ] || { echo "$found"; exit 1; }
 echo "pages: no line is too long"

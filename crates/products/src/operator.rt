@@ -1,5 +1,6 @@
-// The reduced operator `S·v = Fᵀ(F·v − E·(EᵀE+λD_e)⁻¹·Eᵀ·F·v) + λD_k·v`, reading only `J`. `d` carries `λ·D_k` for each kept local number, and
-// is empty for an undamped solve; the eliminated side's damping is in the inverses. The plan is done as it stands, wherever it is from.
+// The reduced operator `S·v = Fᵀ(F·v − E·(EᵀE+λD_e)⁻¹·Eᵀ·F·v) + λD_k·v`, reading only `J`. `d` carries `λ·D_k` for each kept
+// local number, and is empty for an undamped solve; the eliminated side's damping is in the inverses. The plan is done as it
+// stands, wherever it is from.
 use crate::plan_check::check_plan;
 use crate::side::Side;
 use crate::side_sums::gather_side;
