@@ -19,7 +19,7 @@ use Rattle.ground.specs.Fold.{folded}
 use Rattle.columns.specs.declared.refusal.Answer.the-variants as answer
 use Rattle.columns.specs.Refusals.{onPass}
 use Rattle.columns.specs.Lengths.{pairBad, pairsTold}
-use Rattle.columns.specs.Columns.{firstIn, endIn, tooBig, falls, badShape, rowBad, rowFalls, columnBad, badRow, checked}
+use Rattle.columns.specs.Columns.{Columns, firstIn, endIn, tooBig, falls, badShape, rowBad, rowFalls, columnBad, badRow, checked}
 use Rattle.columns.specs.Sums.{joined, landed}
 use Rattle.columns.specs.JacobianOps.{landing, landings}
 use Rattle.blocks.specs.Sides.{blockColumns, offsetOf}
