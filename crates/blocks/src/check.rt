@@ -131,7 +131,7 @@ fn first_free(map: &[u32], n: usize) -> usize
 }
 
 // How a walk over some claims ended: through them, with the next local number, or at a refusal.
-#[derive(Drop)]
+#[derive(Clone, Copy)]
 enum Walk {
     Through(u32),
     Stopped(Refusal),

@@ -8,7 +8,7 @@ ghost use Rattle.blocks.specs.Damping.{identity_of, bad_damping, damping_told, c
 
 use columns::refusal::{Answer, Refusal};
 
-#[derive(Drop)]
+#[derive(Clone, Copy)]
 pub struct Damping {
     pub lambda: f64,
     // the least and the most that a diagonal value counts for
@@ -17,7 +17,7 @@ pub struct Damping {
 }
 
 // The answer of `diagonal_term`.
-#[derive(Drop)]
+#[derive(Clone, Copy)]
 pub enum DiagonalTerm {
     Term(f64),
     Refused(Refusal),

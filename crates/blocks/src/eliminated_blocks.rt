@@ -18,14 +18,14 @@ use columns::refusal::{Answer, Refusal, or_else, wrong_length};
 const MOST_VALUES: usize = 281_474_976_710_656;
 
 // A part of a slice.
-#[derive(Drop)]
+#[derive(Clone, Copy)]
 pub struct Place {
     pub start: usize,
     pub length: usize,
 }
 
 // A value, where there is one.
-#[derive(Drop)]
+#[derive(Clone, Copy)]
 pub enum Entry {
     Value(f64),
     Nothing,

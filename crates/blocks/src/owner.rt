@@ -3,7 +3,7 @@ ghost use Rattle.std.specs.Prelude.{◌≡◌, eqb};
 ghost use Rattle.blocks.specs.Claims.{mark};
 
 // The owner of a row: an eliminated block's number, or the mark.
-#[derive(Drop)]
+#[derive(Clone, Copy)]
 pub struct Owner {
     pub block: u32,
 }

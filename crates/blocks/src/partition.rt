@@ -8,7 +8,7 @@ use crate::check::MOST_BLOCKS;
 use ground::wide;
 
 // Which side a column is on, and where there.
-#[derive(Drop)]
+#[derive(Clone, Copy)]
 pub enum ColSlot {
     Kept { local: usize },
     Eliminated { block: usize, offset: usize },
@@ -16,14 +16,14 @@ pub enum ColSlot {
 }
 
 // A number, where there is one.
-#[derive(Drop)]
+#[derive(Clone, Copy)]
 pub enum Number {
     Is(usize),
     Nothing,
 }
 
 // A place in a block, where there is one.
-#[derive(Drop)]
+#[derive(Clone, Copy)]
 pub enum Within {
     At { block: usize, offset: usize },
     Nothing,

@@ -16,7 +16,7 @@ use crate::refusal::{Answer, Refusal, or_else, wrong_length};
 use crate::unchecked::{Sign, dot_columns, end_place, first_place, gather_column, sweep_column};
 
 // The answer of `column_dot`.
-#[derive(Drop)]
+#[derive(Clone, Copy)]
 pub enum Dot {
     Sum(f64),
     Refused(Refusal),

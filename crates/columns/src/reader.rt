@@ -4,14 +4,14 @@
 ghost use Rattle.std.specs.Prelude.{◌≡◌, ◌+◌, ◌<◌, length};
 ghost use Rattle.columns.specs.Reader.{step_at};
 
-#[derive(Drop)]
+#[derive(Clone, Copy)]
 pub(crate) struct ColumnReader<'a> {
     rows: &'a [u32],
     pub(crate) at: usize,
 }
 
 // What a reader comes to: a row number, or the column's end.
-#[derive(Drop)]
+#[derive(Clone, Copy)]
 pub(crate) enum Step {
     Row(u32),
     End,

@@ -5,7 +5,7 @@ ghost use Rattle.columns.specs.Refusals.{number, values, told, or_else, sooner};
 ghost use Rattle.columns.specs.Lengths.{pair_bad, bad_pair, no_room_of, wrong_length, PairThere};
 
 // Why a call was refused: document 01's numbers 1 to 14, in its order.
-#[derive(Drop)]
+#[derive(Clone, Copy)]
 pub enum Refusal {
     TooBig,
     BadShape,
@@ -30,7 +30,7 @@ pub enum Refusal {
 }
 
 // A refusal's values: how many it has, and the two; 0 where there is none.
-#[derive(Drop)]
+#[derive(Clone, Copy)]
 pub struct Values {
     pub count: usize,
     pub first: usize,
@@ -143,7 +143,7 @@ impl Refusal {
 }
 
 // The answer of a call that gives no values of its own.
-#[derive(Drop)]
+#[derive(Clone, Copy)]
 pub enum Answer {
     Done,
     Refused(Refusal),

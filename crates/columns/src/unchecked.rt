@@ -28,7 +28,7 @@ pub fn end_place(ptrs: &[u32], j: usize) -> usize
 }
 
 // Whether terms are added to the rows or subtracted.
-#[derive(Drop)]
+#[derive(Clone, Copy)]
 pub enum Sign {
     Plus,
     Minus,
@@ -147,7 +147,7 @@ pub fn gather_column(
 }
 
 // How far the merge of two columns has come: the next entry of each, and the sum so far.
-#[derive(Drop)]
+#[derive(Clone, Copy)]
 pub struct Merge {
     pub ia: usize,
     pub ib: usize,

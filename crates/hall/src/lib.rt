@@ -1,5 +1,7 @@
 // The built-in hall: small constant tables with document 01's figures, and a self-check that runs its proved cases through the public calls
 // and compares what they give with the tables.
+#![tactic(auto)]
+
 mod calls;
 mod cases;
 mod same;

@@ -64,7 +64,7 @@ pub(crate) fn same_floats(got: &[f64], expected: &[f64]) -> bool
 }
 
 // What a call tells: document 01's number, how many values go with it, and two of them, 0 where there is none.
-#[derive(Drop)]
+#[derive(Clone, Copy)]
 pub struct Numbers {
     pub number: u32,
     pub count: usize,

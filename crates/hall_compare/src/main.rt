@@ -1,5 +1,7 @@
 // Runs the built-in hall's cases 9 and 10, those that are compared and not proved, through the public calls, and prints what came of them.
 // It takes no input. `stdout` has what document 01 says of the two cases, written by hand.
+#![tactic(auto)]
+
 use columns::refusal::Answer;
 use hall::tables::{
     CHUNK_LEN, ELIMS, ELIMS_HI, ELIMS_LO, ELIMS_LOCAL, INVERSES, KEPT, KEPT_HI, KEPT_LO,

@@ -1,4 +1,5 @@
 // Runs the built-in hall, cases 1 to 8, and prints one line. It takes no input.
+#![tactic(auto)]
 
 fn main() {
     if hall::hall_ok() {

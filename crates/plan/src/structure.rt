@@ -18,7 +18,7 @@ use columns::check::column_count;
 use columns::refusal::{Answer, Refusal, no_room, or_else};
 
 // What planning answers: how many spans each side has, or why there is no plan.
-#[derive(Drop)]
+#[derive(Clone, Copy)]
 pub enum Planned {
     Done {
         kept_spans: usize,

@@ -1,1 +1,3 @@
 // What the plan's definitions come to, that its promises determine the outcome, and its worked cases. Laws; no function.
+#![tactic(auto)]
+

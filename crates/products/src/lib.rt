@@ -1,4 +1,6 @@
 // Products over columns, blocks and a plan.
+#![tactic(auto)]
+
 pub mod coupling;
 pub mod operator;
 pub mod order;

@@ -24,7 +24,7 @@ use columns::unchecked::Sign;
 use plan::spans::chunk_count;
 
 // How long the vectors and work buffers are that an operator is lent.
-#[derive(Drop)]
+#[derive(Clone, Copy)]
 struct Sizes {
     v: usize,
     inverses: usize,

@@ -5,7 +5,7 @@ ghost use Rattle.products.specs.Side.{eliminated, side_number};
 
 use columns::unchecked::Sign;
 
-#[derive(Drop)]
+#[derive(Clone, Copy)]
 pub enum Side {
     Kept,
     Eliminated,

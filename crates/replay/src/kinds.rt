@@ -5,7 +5,7 @@ use crate::{block_values, damping, jacobian_ops, partition, with_columns};
 pub(crate) const COUNTS: usize = 32;
 
 // What became of a case.
-#[derive(Drop)]
+#[derive(Clone, Copy)]
 pub(crate) enum Outcome {
     // its answers were compared: they are the original's, or they are not
     Same,

@@ -1,6 +1,8 @@
 // Replays lists of the original's answers (oracle/README-answers.md): every case goes through our functions, and what they give is compared
 // with what the original gave, bit for bit, with NaN as NaN. `answers` is as the original answered; `flipped` has one bit of one answer
 // changed, so that the comparison is seen to find it.
+#![tactic(auto)]
+
 mod bits;
 mod block_values;
 mod damping;

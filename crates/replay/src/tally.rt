@@ -28,7 +28,7 @@ const SHOWN: usize = 20;
 
 // What is counted of a list: its cases; those that were compared, in all and by kind; those that differ, and the first of their numbers,
 // which count from 0. No list has so many cases that a count could wrap.
-#[derive(Drop)]
+#[derive(Clone, Copy)]
 pub(crate) struct Tally {
     pub cases: u64,
     pub compared: u64,

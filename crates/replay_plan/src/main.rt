@@ -1,6 +1,8 @@
 // Replays a list of plans of the original Rust (oracle/README-answers.md, Plans): every case goes through `plan`, and its answer and all that
 // the 17 lent buffers then hold are compared with what the original gave. `answers` is as the original answered; `flipped` has one number of
 // one answer changed, so that the comparison is seen to find it.
+#![tactic(auto)]
+
 mod call;
 mod list;
 mod tally;

@@ -22,7 +22,7 @@ const SHOWN: usize = 20;
 
 // What is counted of a list: its plans, those of them that were refused, those that differ, and the first of their numbers, which count from
 // 0. No list has so many plans that a count could wrap.
-#[derive(Drop)]
+#[derive(Clone, Copy)]
 pub(crate) struct Tally {
     pub plans: u64,
     pub refused: u64,

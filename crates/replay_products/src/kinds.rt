@@ -9,7 +9,7 @@ use products::side::Side;
 pub(crate) const COUNTS: usize = 13;
 
 // What became of a record.
-#[derive(Drop)]
+#[derive(Clone, Copy)]
 pub(crate) enum Outcome {
     // it is a problem
     Problem,

@@ -1,6 +1,8 @@
 // Replays lists of the original's products (oracle/README-answers.md, Products): every case goes through our products, and what they give is
 // compared with what the original gave, bit for bit, with NaN as NaN. `answers` is as the original answered; `flipped` has some of its cases,
 // with one bit changed in some of the answers, so that the comparison is seen to find each.
+#![tactic(auto)]
+
 mod bits;
 mod kinds;
 mod list;
