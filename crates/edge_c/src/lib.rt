@@ -1,4 +1,5 @@
-// C linkage of the three calls that the host makes each night: each export passes its call on to the library edge, under the same contract.
+// C linkage for the host: the plan, the operator and the update. Each export passes its call on to the function of its name in the library edge, under
+// the same contract.
 #![tactic(auto)]
 
 pub mod exports;
