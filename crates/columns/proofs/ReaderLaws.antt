@@ -54,15 +54,13 @@ module _ (nrows : ℕ) (rows : List ℕ) where
   pub record WalkedTo : Type 0 where
     pub at : ℕ
     pub least : ℕ
-    -- it is a number of the machine's
-    pub fits : least < 2 ^ 64
     pub inside : at ≤ length rows
     pub floor : least ≡ least_at rows at
     -- no row before is bad
     pub rest : first bad at (length rows) ≡ first bad 0 (length rows)
 
   abbrev pub walk_start : WalkedTo
-  walk_start = record { at = 0; least = 0; fits = lit< tt; inside = omega arith; floor = least_first rows; rest = refl }
+  walk_start = record { at = 0; least = 0; inside = omega arith; floor = least_first rows; rest = refl }
 
   module _ (w : WalkedTo) where
     abbrev Stops : Bool → Type 0
@@ -94,11 +92,10 @@ module _ (nrows : ℕ) (rows : List ℕ) where
     unfolding above_of
     floor_next least e s = rw (lt-ltb _ _ (walk_goes s)) at e ∙ least_next rows w.at
 
-    abbrev pub walk_turn : (least : ℕ) → least < 2 ^ 64 → least ≡ above_of (step_at rows w.at) → Stops false → WalkedTo
-    walk_turn least f e s = record {
+    abbrev pub walk_turn : (least : ℕ) → least ≡ above_of (step_at rows w.at) → Stops false → WalkedTo
+    walk_turn least e s = record {
       at = w.at + 1;
       least = least;
-      fits = f;
       inside = omega (arith, walk_goes s);
       floor = floor_next least e s;
       rest = first_turn bad (walk_goes s) w.rest (row-there false (walk_goes s) s);
