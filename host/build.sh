@@ -5,7 +5,8 @@
 #   build.sh cargo VERB ARGS...     cargo for x86-64, in this folder, as  build.sh cargo test --offline
 #   build.sh run PROGRAM ARGS...    runs an x86-64 program
 # On x86-64 these are plain rustc, plain cargo and a plain run. On aarch64: Debian's rustc-web (arm64) with Debian's amd64 std, unpacked below
-# $HB_HOME and not installed; the Rattle kit's clang and C library link, and its qemu runs.
+# $HB_HOME and not installed; the Rattle kit's clang and C library link, and its qemu runs. That kit is the one that RATTLE_HOME names, else rt's own;
+# it has to have tools for aarch64, which not every kit has.
 set -eu
 here=$(cd "$(dirname "$0")" && pwd -P)
 T=x86_64-unknown-linux-gnu
@@ -39,6 +40,10 @@ tc=$KIT/on/$(uname -m)/toolchain
 
 setup() {
     [ ! -x "$HB_HOME/cc" ] || return 0
+    if [ ! -d "$tc" ]; then
+        echo "build.sh: the Rattle kit has no tools for $(uname -m): name one that has in RATTLE_HOME" >&2
+        exit 1
+    fi
     work=$HB_HOME/apt
     mkdir -p "$work/state/lists/partial" "$work/cache/archives/partial" "$work/debs" "$HB_HOME/root" "$HB_HOME/lib"
     : >"$work/status"
@@ -97,7 +102,7 @@ archives() {
     for n in edge edge_compare; do
         [ -f "$lib/lib$n.a" ] && continue
         echo "lib$n.a is not in ${PIVOTFERN_LIB:-target/staticlib}." >&2
-        echo "Write it with \`rt staticlib $n\` in the repository, or name its folder in PIVOTFERN_LIB." >&2
+        echo "Write it with host/archives.sh $n in the repository, or name its folder in PIVOTFERN_LIB." >&2
         exit 1
     done
     # a changed archive is a changed build

@@ -5,7 +5,7 @@ set -euo pipefail
 here=$(cd "$(dirname "${BASH_SOURCE[0]}")" && pwd -P)
 for name in edge edge_compare; do
     if [ -z "${PIVOTFERN_LIB:-}" ] && [ ! -e "$here/../target/staticlib/lib$name.a" ]; then
-        (cd "$here/.." && rt staticlib "$name")
+        "$here/archives.sh" "$name"
     fi
 done
 lib=$(cd "$here" && cd "${PIVOTFERN_LIB:-../target/staticlib}" && pwd -P)

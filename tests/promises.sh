@@ -38,7 +38,7 @@ pub fn bare(x: u32) -> u32 {
 }
 
 pub fn needs_only(x: u32)
-    requires { ⌜ x < 2 ⌝ }
+    requires { x < 2 }
 {
 }
 
@@ -51,17 +51,21 @@ impl Pair {
     }
 
     pub fn promised(self) -> u32
-        requires { ⌜ self ≡ record { first = 1 } ⌝ }
-        ensures { λ r. ⌜ record { first = r }
-            ≡ record { first = 1 } ⌝ }
+        requires { self ≡ record { first = 1 } }
+        ensures given { record { first = result }
+            ≡ record { first = 1 } }
+        ensures small { result < 2 }
     {
         1
     }
 }
 
-#[no_mangle]
+#[unsafe(no_mangle)]
 pub extern "C" fn exported(x: &mut [u32]) {
 }
+
+#[derive(Clone, Copy)]
+pub struct Plain(pub u32);
 
 pub(crate) fn inner() {
 }
@@ -69,7 +73,7 @@ pub(crate) fn inner() {
 fn private() {
 }
 MADE
-want='bare|needs_only requires|method|promised requires ensures|exported|'
+want='bare|needs_only requires|method|promised requires ensures ensures|exported|'
 found=$(public_functions "$made" | tr '\n' '|')
 [ "$found" = "$want" ] || { echo "the made file has $want and not $found"; exit 1; }
 found=$(public_functions "$made" | without_promise | tr '\n' ' ')
@@ -85,7 +89,8 @@ for src in $(find crates/*/src -name '*.rt' | sort); do
     module=${src#crates/"$crate"/src/}
     module=${module%.rt}
     path=$crate::${module//\//::}
-    [ "$module" != lib ] || path=$crate
+    reads=${module//\//.}.
+    [ "$module" != lib ] || { path=$crate; reads=; }
     functions=$(public_functions "$src")
     for name in $(without_promise <<< "$functions"); do
         echo "promises nothing: $path::$name"
@@ -97,7 +102,7 @@ for src in $(find crates/*/src -name '*.rt' | sort); do
         [[ $clauses == *requires* ]] && need=' requires' || need=
         listed+="$path::$name$need"$'\n'
         [ -e "crates/$crate/src/lib.rt" ] || { echo "a program has a public function: $path::$name"; bad=1; }
-        grep -qE "^use Rattle·$crate(·proofs)?\.proofs\.([A-Za-z_]+\.)*$name\.Reads " crates/*/proofs/Determined*.antt ||
+        grep -qE "^use Rattle\.$crate\.proofs\.$reads([A-Z][A-Za-z]*\.)?$name\.Reads " crates/*/proofs/Determined*.antt ||
             { echo "no Determined*.antt reads the contract of $path::$name"; bad=1; }
     done <<< "$functions"
 done

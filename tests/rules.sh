@@ -19,8 +19,8 @@ missing() {
     done
 }
 
-want=$'no-such-name is not in crates/columns/specs/Columns.antt\nthere is no columns/specs/NoSuchFile'
-got=$(echo '| a | columns/specs/Columns `tooBig`, `no-such-name` | columns/specs/NoSuchFile |' | missing)
+want=$'no_such_name is not in crates/columns/specs/Columns.antt\nthere is no columns/specs/NoSuchFile'
+got=$(echo '| a | columns/specs/Columns `too_big`, `no_such_name` | columns/specs/NoSuchFile |' | missing)
 [ "$got" = "$want" ] || { echo "rules: the test itself is broken: $got"; exit 1; }
 
 found=$(missing < docs/RULES.md)

@@ -1,5 +1,5 @@
 /*
- * Pivotfern's three calls of every night, for C: libedge.a has them (`rt staticlib edge` writes it). They hold no state, allocate nothing and
+ * Pivotfern's three calls of every night, for C: libedge.a has them (host/archives.sh writes it). They hold no state, allocate nothing and
  * keep no pointer. A test compares these prototypes and numbers with the sources.
  *
  * Every list is a pointer and, next to it, its length in elements. What a caller has to see to:

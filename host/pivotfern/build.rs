@@ -1,4 +1,4 @@
-//! Finds the archives that `rt staticlib` writes, in the folder that PIVOTFERN_LIB names (a relative name counts from the workspace), else in
+//! Finds the archives that host/archives.sh writes, in the folder that PIVOTFERN_LIB names (a relative name counts from the workspace), else in
 //! target/staticlib of the repository: `edge`, and `edge_compare` where the feature `compare` asks for its calls.
 
 use std::path::PathBuf;
@@ -20,7 +20,7 @@ fn main() {
         let archive = folder.join(format!("lib{name}.a"));
         if !archive.is_file() {
             eprintln!("{} is not there.", archive.display());
-            eprintln!("Write it with `rt staticlib {name}` in the repository, or name its folder in PIVOTFERN_LIB.");
+            eprintln!("Write it with host/archives.sh {name} in the repository, or name its folder in PIVOTFERN_LIB.");
             process::exit(1);
         }
         println!("cargo:rerun-if-changed={}", archive.display());

@@ -14,8 +14,7 @@ use products::operator::apply_schur_operator;
 use products::update::combine_updates;
 
 // The structure plan. 0 has the span counts of the kept and of the eliminated side.
-#[unsafe(no_mangle)]
-pub extern "C" fn pivotfern_plan(
+pub fn pivotfern_plan(
     nrows: usize,
     ptrs: &[u32],
     rows: &[u32],
@@ -86,8 +85,7 @@ pub extern "C" fn pivotfern_plan(
 }
 
 // The reduced operator over a plan.
-#[unsafe(no_mangle)]
-pub extern "C" fn pivotfern_operator(
+pub fn pivotfern_operator(
     nrows: usize,
     ptrs: &[u32],
     rows: &[u32],
@@ -114,14 +112,14 @@ pub extern "C" fn pivotfern_operator(
     first: &mut u64,
     second: &mut u64,
 ) -> u32
-    ensures { let m = columns_of nrows ptrs.now rows.entry.now values.now in
+    ensures { let m = columns_of nrows ptrs.now rows.now values.now in
         let keptLent = spread_of kept_starts.now kept_lo.now kept_hi.now kept_local.now in
         let elimsLent = spread_of elims_starts.now elims_lo.now elims_hi.now elims_local.now in
         let told : Crossed = record { number = result; first = first.new; second = second.new } in
         record { told = told; left = (map.new, record { rows = y.new; t = t.new; u = u.new; out = out.new }) }
         ≡ operator_export
         (schur_operator m kept.now elims.now chunk_len map.old
-        (record { v = v.entry.now; inverses = inverses.now; d = d.now; kept = keptLent; elims = elimsLent })
+        (record { v = v.now; inverses = inverses.now; d = d.now; kept = keptLent; elims = elimsLent })
         (record { rows = y.old; t = t.old; u = u.old; out = out.old })) }
 {
     let answer = apply_schur_operator(
@@ -153,8 +151,7 @@ pub extern "C" fn pivotfern_operator(
 }
 
 // The update of all columns from the kept side's and the eliminated one's.
-#[unsafe(no_mangle)]
-pub extern "C" fn pivotfern_update(
+pub fn pivotfern_update(
     nrows: usize,
     ptrs: &[u32],
     rows: &[u32],

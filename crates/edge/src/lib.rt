@@ -1,4 +1,4 @@
-// C linkage for the host: the plan, the operator and the update, on numbers and slices.
+// What crosses C linkage for the host: the plan, the operator and the update, on numbers and slices. The exports themselves are those of edge_c.
 #![tactic(auto)]
 
 pub mod cross;

@@ -17,8 +17,7 @@ use blocks::partition::{eliminated_local, kept_local, slot};
 use edge::cross::cross_answer;
 
 // Checks columns and blocks, and fills the map.
-#[unsafe(no_mangle)]
-pub extern "C" fn pivotfern_check_blocks(
+pub fn pivotfern_check_blocks(
     nrows: usize,
     ptrs: &[u32],
     rows: &[u32],
@@ -38,8 +37,7 @@ pub extern "C" fn pivotfern_check_blocks(
 }
 
 // Where a column stands: 0 nothing; 1 and its local number; 2, its block and its offset there.
-#[unsafe(no_mangle)]
-pub extern "C" fn pivotfern_slot(
+pub fn pivotfern_slot(
     kept: &[u32],
     elims: &[u32],
     column: usize,
@@ -53,13 +51,7 @@ pub extern "C" fn pivotfern_slot(
 }
 
 // The same, of the kept list alone.
-#[unsafe(no_mangle)]
-pub extern "C" fn pivotfern_kept_local(
-    kept: &[u32],
-    column: usize,
-    first: &mut u64,
-    second: &mut u64,
-) -> u32
+pub fn pivotfern_kept_local(kept: &[u32], column: usize, first: &mut u64, second: &mut u64) -> u32
     ensures { looked result first.new second.new ≡ number_looked (local_in kept.now column) }
 {
     let answer = kept_local(kept, column);
@@ -67,8 +59,7 @@ pub extern "C" fn pivotfern_kept_local(
 }
 
 // The same, of the eliminated list alone.
-#[unsafe(no_mangle)]
-pub extern "C" fn pivotfern_eliminated_local(
+pub fn pivotfern_eliminated_local(
     elims: &[u32],
     column: usize,
     first: &mut u64,
@@ -81,8 +72,7 @@ pub extern "C" fn pivotfern_eliminated_local(
 }
 
 // Where block `number` stands among the values: start and length. The part itself cannot cross.
-#[unsafe(no_mangle)]
-pub extern "C" fn pivotfern_block(
+pub fn pivotfern_block(
     values: &[f64],
     elims: &[u32],
     number: usize,
@@ -97,8 +87,7 @@ pub extern "C" fn pivotfern_block(
 }
 
 // The diagonal blocks of the eliminated side.
-#[unsafe(no_mangle)]
-pub extern "C" fn pivotfern_gather_from_jacobian(
+pub fn pivotfern_gather_from_jacobian(
     nrows: usize,
     ptrs: &[u32],
     rows: &[u32],
@@ -120,8 +109,7 @@ pub extern "C" fn pivotfern_gather_from_jacobian(
 }
 
 // Adds the damping to every block's diagonal.
-#[unsafe(no_mangle)]
-pub extern "C" fn pivotfern_damp(
+pub fn pivotfern_damp(
     nrows: usize,
     ptrs: &[u32],
     rows: &[u32],
@@ -151,9 +139,8 @@ pub extern "C" fn pivotfern_damp(
     cross_answer(answer, first, second)
 }
 
-// What damping adds to a diagonal value, through `result`, which stays as it was after a refusal.
-#[unsafe(no_mangle)]
-pub extern "C" fn pivotfern_diagonal_term(
+// What damping adds to a diagonal value, through `res`, which stays as it was after a refusal.
+pub fn pivotfern_diagonal_term(
     lambda: f64,
     min: f64,
     max: f64,

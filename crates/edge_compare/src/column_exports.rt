@@ -11,8 +11,7 @@ use columns::jacobian_ops::{column_dot, diag_jt_j, jt_j_vec_product, jt_vec};
 use edge::cross::cross_answer;
 
 // Whether the columns keep the rules.
-#[unsafe(no_mangle)]
-pub extern "C" fn pivotfern_check_columns(
+pub fn pivotfern_check_columns(
     nrows: usize,
     ptrs: &[u32],
     rows: &[u32],
@@ -27,9 +26,8 @@ pub extern "C" fn pivotfern_check_columns(
     cross_answer(answer, first, second)
 }
 
-// The dot of two columns, through `result`, which stays as it was after a refusal.
-#[unsafe(no_mangle)]
-pub extern "C" fn pivotfern_column_dot(
+// The dot of two columns, through `res`, which stays as it was after a refusal.
+pub fn pivotfern_column_dot(
     nrows: usize,
     ptrs: &[u32],
     rows: &[u32],
@@ -53,8 +51,7 @@ pub extern "C" fn pivotfern_column_dot(
 }
 
 // The columns times a vector over the rows.
-#[unsafe(no_mangle)]
-pub extern "C" fn pivotfern_jt_vec(
+pub fn pivotfern_jt_vec(
     nrows: usize,
     ptrs: &[u32],
     rows: &[u32],
@@ -73,8 +70,7 @@ pub extern "C" fn pivotfern_jt_vec(
 }
 
 // The squared norm of each column.
-#[unsafe(no_mangle)]
-pub extern "C" fn pivotfern_diag_jt_j(
+pub fn pivotfern_diag_jt_j(
     nrows: usize,
     ptrs: &[u32],
     rows: &[u32],
@@ -92,8 +88,7 @@ pub extern "C" fn pivotfern_diag_jt_j(
 }
 
 // The normal matrix times a vector over the columns.
-#[unsafe(no_mangle)]
-pub extern "C" fn pivotfern_jt_j_vec_product(
+pub fn pivotfern_jt_j_vec_product(
     nrows: usize,
     ptrs: &[u32],
     rows: &[u32],

@@ -14,7 +14,7 @@ use columns::refusal::Answer;
 use edge::cross::{cross_answer, cross_refusal};
 use products::side::Side;
 
-// A sum, or a refusal that leaves `result` as it was.
+// A sum, or a refusal that leaves `res` as it was.
 pub(crate) fn cross_dot(dot: Dot, res: &mut f64, first: &mut u64, second: &mut u64) -> u32
     ensures { let told : Crossed = record { number = result; first = first.new; second = second.new } in
         record { told = told; left = res.new } ≡ dot_export (dotted dot) res.old }

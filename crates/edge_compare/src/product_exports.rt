@@ -13,8 +13,7 @@ use products::coupling::{apply_eliminated_inverse, coupling_times, coupling_tran
 use products::order::{step, sweep};
 
 // The block inverses times a vector.
-#[unsafe(no_mangle)]
-pub extern "C" fn pivotfern_apply_eliminated_inverse(
+pub fn pivotfern_apply_eliminated_inverse(
     nrows: usize,
     ptrs: &[u32],
     rows: &[u32],
@@ -42,8 +41,7 @@ pub extern "C" fn pivotfern_apply_eliminated_inverse(
 }
 
 // The coupling of the eliminated side with the kept one times a vector.
-#[unsafe(no_mangle)]
-pub extern "C" fn pivotfern_coupling_times(
+pub fn pivotfern_coupling_times(
     nrows: usize,
     ptrs: &[u32],
     rows: &[u32],
@@ -68,8 +66,7 @@ pub extern "C" fn pivotfern_coupling_times(
 }
 
 // Its transpose times a vector.
-#[unsafe(no_mangle)]
-pub extern "C" fn pivotfern_coupling_transpose_times(
+pub fn pivotfern_coupling_transpose_times(
     nrows: usize,
     ptrs: &[u32],
     rows: &[u32],
@@ -94,8 +91,7 @@ pub extern "C" fn pivotfern_coupling_transpose_times(
 }
 
 // One place of a work order. Side 0 is kept, any other eliminated.
-#[unsafe(no_mangle)]
-pub extern "C" fn pivotfern_step(
+pub fn pivotfern_step(
     side: u32,
     nrows: usize,
     ptrs: &[u32],
@@ -147,8 +143,7 @@ pub extern "C" fn pivotfern_step(
 }
 
 // A whole work order, likewise.
-#[unsafe(no_mangle)]
-pub extern "C" fn pivotfern_sweep(
+pub fn pivotfern_sweep(
     side: u32,
     nrows: usize,
     ptrs: &[u32],

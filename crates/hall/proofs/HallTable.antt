@@ -39,5 +39,5 @@ hall_table = record {
   twice = refl;
   short = refl;
   missing = refl;
-  bad_row_lem = refl;
+  bad_row = refl;
 }

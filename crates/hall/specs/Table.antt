@@ -91,4 +91,4 @@ pub record HallTable : Type 0 where
   pub missing : swept_along (3 ∷ [])
       ≡ record { told = tell 14 (0 ∷ []); map = marked_map; rows = unused_rows; progress = 0 ∷ 0 ∷ 0 ∷ [] }
   -- 8: column 0 at rows 0, 1, 1, 4: refusal 3, column 0, entry 2
-  pub bad_row_lem : checked repeated ≡ tell 3 (0 ∷ 2 ∷ [])
+  pub bad_row : checked repeated ≡ tell 3 (0 ∷ 2 ∷ [])

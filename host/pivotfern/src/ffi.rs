@@ -76,7 +76,7 @@ extern "C" {
     pub fn pivotfern_column_dot(
         nrows: usize, ptrs: *const u32, ptrs_len: usize, rows: *const u32, rows_len: usize, values: *const f64, values_len: usize,
         a: usize, b: usize,
-        result: *mut f64,
+        res: *mut f64,
         first: *mut u64, second: *mut u64,
     ) -> u32;
 
@@ -153,7 +153,7 @@ extern "C" {
     pub fn pivotfern_diagonal_term(
         lambda: f64, min: f64, max: f64,
         value: f64,
-        result: *mut f64,
+        res: *mut f64,
         first: *mut u64, second: *mut u64,
     ) -> u32;
 

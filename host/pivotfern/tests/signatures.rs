@@ -1,6 +1,7 @@
 //! The declarations of src/ffi.rs and of ../c/pivotfern.h are those of the Rattle sources. The linker knows names only, so an export whose
 //! parameters changed would link and be called wrongly. This reads the texts and compares name, parameters (a slice as pointer and length) and
-//! result; and the header's answers with the numbers of the source's refusals.
+//! result; and the header's answers with the numbers of the source's refusals. Each export repeats a function of the library that it passes its call on
+//! to: that its parameters and clauses are that function's, word for word, is looked at too.
 
 use std::collections::BTreeMap;
 use std::fs;
@@ -154,22 +155,50 @@ fn source(name: &str) -> PathBuf {
     package().join("../../crates").join(name).join("src")
 }
 
-fn exports_of(name: &str) -> Signatures {
-    let mut all = Signatures::new();
+/// What a reader finds in the sources of a crate.
+fn of_crate<T>(name: &str, found: impl Fn(&str) -> BTreeMap<String, T>) -> BTreeMap<String, T> {
+    let mut all = BTreeMap::new();
     let folder = source(name);
     let files = fs::read_dir(&folder).unwrap_or_else(|e| panic!("{}: {e}", folder.display()));
     for file in files {
         let path = file.expect("a folder can be read").path();
         if path.extension().is_some_and(|e| e == "rt") {
-            all.extend(exports(&read(&path)));
+            all.extend(found(&read(&path)));
         }
     }
     all
 }
 
+fn exports_of(name: &str) -> Signatures {
+    of_crate(name, exports)
+}
+
+/// Every function that begins with `opening`: all that stands before its body, word by word, however its parameters stand on lines.
+fn contracts(source: &str, opening: &str) -> BTreeMap<String, String> {
+    let text = without_comments(source);
+    let parts = text.split(opening).skip(1).map(|part| {
+        let (name, _) = part.split_once('(').expect("a function has parameters");
+        let (head, _) = part.split_once("\n{\n").expect("a body stands on lines of its own");
+        let words = head.split_whitespace().collect::<Vec<_>>().join(" ");
+        (name.trim().to_string(), words.replace("( ", "(").replace(", )", ")"))
+    });
+    parts.collect()
+}
+
+fn exported_contracts(source: &str) -> BTreeMap<String, String> {
+    contracts(source, "#[unsafe(no_mangle)]\npub extern \"C\" fn ")
+}
+
+/// Of the functions of a library, those that are named as exports are.
+fn library_contracts(source: &str) -> BTreeMap<String, String> {
+    let mut all = contracts(source, "\npub fn ");
+    all.retain(|name, _| name.starts_with("pivotfern_"));
+    all
+}
+
 /// Names are compared first, then one by one, so that a failure shows the function.
-fn assert_same(declared: &Signatures, exported: &Signatures) {
-    let names = |all: &Signatures| all.keys().cloned().collect::<Vec<_>>();
+fn assert_same<T: PartialEq + std::fmt::Debug>(declared: &BTreeMap<String, T>, exported: &BTreeMap<String, T>) {
+    let names = |all: &BTreeMap<String, T>| all.keys().cloned().collect::<Vec<_>>();
     assert_eq!(names(declared), names(exported));
     for (name, signature) in exported {
         assert_eq!(&declared[name], signature, "{name}");
@@ -187,10 +216,27 @@ fn assert_seen<T: PartialEq + std::fmt::Debug>(text: &str, read: impl Fn(&str) -
 
 #[test]
 fn declarations_are_the_exports() {
-    let mut exported = exports_of("edge");
-    exported.extend(exports_of("edge_compare"));
+    let mut exported = exports_of("edge_c");
+    exported.extend(exports_of("edge_compare_c"));
     assert_eq!(exported.len(), 21, "plan, operator and update, and 18 for comparison");
     assert_same(&declarations(&read(&package().join("src/ffi.rs"))), &exported);
+}
+
+#[test]
+fn exports_repeat_their_library() {
+    for (library, count) in [("edge", 3), ("edge_compare", 18)] {
+        let exported = of_crate(&format!("{library}_c"), exported_contracts);
+        assert_eq!(exported.len(), count, "{library}");
+        assert!(exported.values().all(|head| head.contains(" ensures { ")));
+        assert_same(&of_crate(library, library_contracts), &exported);
+    }
+    let damages = [
+        ("elims.now map.old", "kept.now map.old"),
+        ("map: &mut [u32],", "map: &[u32],"),
+        ("#[unsafe(no_mangle)]\n", ""),
+    ];
+    let exports = read(&source("edge_c").join("exports.rt"));
+    assert_seen(&exports, exported_contracts, &damages);
 }
 
 #[test]
@@ -217,7 +263,7 @@ fn header() -> String {
 
 #[test]
 fn the_header_has_the_exports_of_edge() {
-    let exported = exports_of("edge");
+    let exported = exports_of("edge_c");
     assert_eq!(exported.len(), 3, "plan, operator and update");
     assert_same(&prototypes(&header()), &exported);
 }
@@ -265,9 +311,9 @@ fn the_header_has_the_numbers_of_the_refusals() {
 fn exports_are_read() {
     let source = r#"
         // pub extern "C" fn not_this(x: u32) -> u32
-        #[no_mangle]
+        #[unsafe(no_mangle)]
         pub extern "C" fn f(n: usize, list: &[u32], buffer: &mut [f64], place: &mut u64) -> u32
-            ensures { λ r. ⌜ r ≡ 0 ⌝ }
+            ensures { result ≡ 0 }
         { 0 }
     "#;
     let expected = [

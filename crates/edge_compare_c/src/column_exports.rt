@@ -1,0 +1,104 @@
+// The calls of `jacobian_ops`.
+ghost use Rattle.std.specs.Prelude.{◌≡◌};
+ghost use Rattle.columns.specs.Columns.{columns_of, checked};
+ghost use Rattle.columns.specs.JacobianOps.{column_dot, jt_vec, diag_jt_j, jt_j_vec_product};
+ghost use Rattle.edge.specs.Edge.{Crossed, crossed};
+ghost use Rattle.edge_compare.specs.Compare.{dot_export, left_export, rows_export};
+
+// Whether the columns keep the rules.
+#[unsafe(no_mangle)]
+pub extern "C" fn pivotfern_check_columns(
+    nrows: usize,
+    ptrs: &[u32],
+    rows: &[u32],
+    values: &[f64],
+    first: &mut u64,
+    second: &mut u64,
+) -> u32
+    ensures { let m = columns_of nrows ptrs.now rows.now values.now in
+        record { number = result; first = first.new; second = second.new } ≡ crossed (checked m) }
+{
+    edge_compare::column_exports::pivotfern_check_columns(nrows, ptrs, rows, values, first, second)
+}
+
+// The dot of two columns, through `res`, which stays as it was after a refusal.
+#[unsafe(no_mangle)]
+pub extern "C" fn pivotfern_column_dot(
+    nrows: usize,
+    ptrs: &[u32],
+    rows: &[u32],
+    values: &[f64],
+    a: usize,
+    b: usize,
+    res: &mut f64,
+    first: &mut u64,
+    second: &mut u64,
+) -> u32
+    ensures { let m = columns_of nrows ptrs.now rows.now values.now in
+        let told : Crossed = record { number = result; first = first.new; second = second.new } in
+        record { told = told; left = res.new } ≡ dot_export (column_dot m a b) res.old }
+{
+    edge_compare::column_exports::pivotfern_column_dot(
+        nrows, ptrs, rows, values, a, b, res, first, second,
+    )
+}
+
+// The columns times a vector over the rows.
+#[unsafe(no_mangle)]
+pub extern "C" fn pivotfern_jt_vec(
+    nrows: usize,
+    ptrs: &[u32],
+    rows: &[u32],
+    values: &[f64],
+    v: &[f64],
+    out: &mut [f64],
+    first: &mut u64,
+    second: &mut u64,
+) -> u32
+    ensures { let m = columns_of nrows ptrs.now rows.now values.now in
+        let told : Crossed = record { number = result; first = first.new; second = second.new } in
+        record { told = told; left = out.new } ≡ left_export (jt_vec m v.now out.old) }
+{
+    edge_compare::column_exports::pivotfern_jt_vec(nrows, ptrs, rows, values, v, out, first, second)
+}
+
+// The squared norm of each column.
+#[unsafe(no_mangle)]
+pub extern "C" fn pivotfern_diag_jt_j(
+    nrows: usize,
+    ptrs: &[u32],
+    rows: &[u32],
+    values: &[f64],
+    out: &mut [f64],
+    first: &mut u64,
+    second: &mut u64,
+) -> u32
+    ensures { let m = columns_of nrows ptrs.now rows.now values.now in
+        let told : Crossed = record { number = result; first = first.new; second = second.new } in
+        record { told = told; left = out.new } ≡ left_export (diag_jt_j m out.old) }
+{
+    edge_compare::column_exports::pivotfern_diag_jt_j(nrows, ptrs, rows, values, out, first, second)
+}
+
+// The normal matrix times a vector over the columns.
+#[unsafe(no_mangle)]
+pub extern "C" fn pivotfern_jt_j_vec_product(
+    nrows: usize,
+    ptrs: &[u32],
+    rows: &[u32],
+    values: &[f64],
+    v: &[f64],
+    y: &mut [f64],
+    out: &mut [f64],
+    first: &mut u64,
+    second: &mut u64,
+) -> u32
+    ensures { let m = columns_of nrows ptrs.now rows.now values.now in
+        let told : Crossed = record { number = result; first = first.new; second = second.new } in
+        record { told = told; left = (y.new, out.new) }
+        ≡ rows_export (jt_j_vec_product m v.now y.old out.old) }
+{
+    edge_compare::column_exports::pivotfern_jt_j_vec_product(
+        nrows, ptrs, rows, values, v, y, out, first, second,
+    )
+}

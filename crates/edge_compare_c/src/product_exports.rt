@@ -1,0 +1,164 @@
+// The products beside the operator and the update.
+ghost use Rattle.std.specs.Prelude.{◌≡◌, true, false};
+ghost use Rattle.columns.specs.Columns.{columns_of};
+ghost use Rattle.products.specs.Couplings.{apply_eliminated_inverse, coupling};
+ghost use Rattle.products.specs.Orders.{step_of, sweep_of};
+ghost use Rattle.edge_compare.specs.Compare.{made_export, coupled_export, swept_export, by_number};
+ghost use Rattle.plan.specs.Spans.{spread_of};
+ghost use Rattle.edge.specs.Edge.{Crossed};
+
+// The block inverses times a vector.
+#[unsafe(no_mangle)]
+pub extern "C" fn pivotfern_apply_eliminated_inverse(
+    nrows: usize,
+    ptrs: &[u32],
+    rows: &[u32],
+    values: &[f64],
+    kept: &[u32],
+    elims: &[u32],
+    map: &mut [u32],
+    b: &[f64],
+    inverses: &[f64],
+    out: &mut [f64],
+    first: &mut u64,
+    second: &mut u64,
+) -> u32
+    ensures { let m = columns_of nrows ptrs.now rows.now values.now in
+        let told : Crossed = record { number = result; first = first.new; second = second.new } in
+        record { told = told; left = (map.new, out.new) }
+        ≡ made_export
+        (apply_eliminated_inverse m kept.now elims.now map.old b.now inverses.now
+        out.old) }
+{
+    edge_compare::product_exports::pivotfern_apply_eliminated_inverse(
+        nrows, ptrs, rows, values, kept, elims, map, b, inverses, out, first, second,
+    )
+}
+
+// The coupling of the eliminated side with the kept one times a vector.
+#[unsafe(no_mangle)]
+pub extern "C" fn pivotfern_coupling_times(
+    nrows: usize,
+    ptrs: &[u32],
+    rows: &[u32],
+    values: &[f64],
+    kept: &[u32],
+    elims: &[u32],
+    map: &mut [u32],
+    u: &[f64],
+    y: &mut [f64],
+    out: &mut [f64],
+    first: &mut u64,
+    second: &mut u64,
+) -> u32
+    ensures { let m = columns_of nrows ptrs.now rows.now values.now in
+        let told : Crossed = record { number = result; first = first.new; second = second.new } in
+        record { told = told; left = (map.new, y.new, out.new) }
+        ≡ coupled_export
+        (coupling true m kept.now elims.now map.old u.now y.old out.old) }
+{
+    edge_compare::product_exports::pivotfern_coupling_times(
+        nrows, ptrs, rows, values, kept, elims, map, u, y, out, first, second,
+    )
+}
+
+// Its transpose times a vector.
+#[unsafe(no_mangle)]
+pub extern "C" fn pivotfern_coupling_transpose_times(
+    nrows: usize,
+    ptrs: &[u32],
+    rows: &[u32],
+    values: &[f64],
+    kept: &[u32],
+    elims: &[u32],
+    map: &mut [u32],
+    v: &[f64],
+    y: &mut [f64],
+    out: &mut [f64],
+    first: &mut u64,
+    second: &mut u64,
+) -> u32
+    ensures { let m = columns_of nrows ptrs.now rows.now values.now in
+        let told : Crossed = record { number = result; first = first.new; second = second.new } in
+        record { told = told; left = (map.new, y.new, out.new) }
+        ≡ coupled_export
+        (coupling false m kept.now elims.now map.old v.now y.old out.old) }
+{
+    edge_compare::product_exports::pivotfern_coupling_transpose_times(
+        nrows, ptrs, rows, values, kept, elims, map, v, y, out, first, second,
+    )
+}
+
+// One place of a work order. Side 0 is kept, any other eliminated.
+#[unsafe(no_mangle)]
+pub extern "C" fn pivotfern_step(
+    side: u32,
+    nrows: usize,
+    ptrs: &[u32],
+    rows: &[u32],
+    values: &[f64],
+    kept: &[u32],
+    elims: &[u32],
+    map: &mut [u32],
+    chunk_len: usize,
+    v: &[f64],
+    starts: &[u32],
+    lo: &[u32],
+    hi: &[u32],
+    local: &[u32],
+    y: &mut [f64],
+    progress: &mut [u32],
+    chunk: usize,
+    first: &mut u64,
+    second: &mut u64,
+) -> u32
+    ensures { let m = columns_of nrows ptrs.now rows.now values.now in
+        let lent = spread_of starts.now lo.now hi.now local.now in
+        let told : Crossed = record { number = result; first = first.new; second = second.new } in
+        record { told = told; left = (map.new, y.new, progress.new) }
+        ≡ swept_export
+        (step_of (by_number side) m kept.now elims.now chunk_len map.old v.now lent y.old
+        progress.old chunk) }
+{
+    edge_compare::product_exports::pivotfern_step(
+        side, nrows, ptrs, rows, values, kept, elims, map, chunk_len, v, starts, lo, hi, local, y,
+        progress, chunk, first, second,
+    )
+}
+
+// A whole work order, likewise.
+#[unsafe(no_mangle)]
+pub extern "C" fn pivotfern_sweep(
+    side: u32,
+    nrows: usize,
+    ptrs: &[u32],
+    rows: &[u32],
+    values: &[f64],
+    kept: &[u32],
+    elims: &[u32],
+    map: &mut [u32],
+    chunk_len: usize,
+    v: &[f64],
+    starts: &[u32],
+    lo: &[u32],
+    hi: &[u32],
+    local: &[u32],
+    y: &mut [f64],
+    progress: &mut [u32],
+    order: &[u32],
+    first: &mut u64,
+    second: &mut u64,
+) -> u32
+    ensures { let m = columns_of nrows ptrs.now rows.now values.now in
+        let lent = spread_of starts.now lo.now hi.now local.now in
+        let told : Crossed = record { number = result; first = first.new; second = second.new } in
+        record { told = told; left = (map.new, y.new, progress.new) }
+        ≡ swept_export
+        (sweep_of (by_number side) m kept.now elims.now chunk_len map.old v.now lent y.old
+        progress.old order.now) }
+{
+    edge_compare::product_exports::pivotfern_sweep(
+        side, nrows, ptrs, rows, values, kept, elims, map, chunk_len, v, starts, lo, hi, local, y,
+        progress, order, first, second,
+    )
+}
