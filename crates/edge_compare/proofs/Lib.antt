@@ -1,1 +1,1 @@
-mod Determined
+pub mod Determined
