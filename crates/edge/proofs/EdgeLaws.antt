@@ -1,6 +1,5 @@
 -- An export gives what its call gives, with the number and the two values in place of what the call tells. Assumes nothing.
 use mathlib.Core.Path.{◌≡◌, ap}
-use Prim.Native.Nat.{ℕ}
 use Rattle.columns.specs.Refusals.{Told}
 use Rattle.edge.specs.Edge.{Crossed, crossed, Export, export}
 

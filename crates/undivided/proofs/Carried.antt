@@ -17,7 +17,6 @@ use borrow.Fn.World.{ArgsD}
 use Rattle.ground.specs.Gather.{gather}
 use Rattle.ground.proofs.GatherLaws.{gather_same}
 use Rattle.columns.specs.declared.refusal.Answer.{Answer}
-use Rattle.columns.specs.declared.refusal.Answer.TheVariants.{Done}
 use Rattle.columns.specs.Refusals.{Told, tell, done, told, Passes, or_else}
 use Rattle.columns.specs.Lengths.{no_room_of, wrong_length}
 use Rattle.columns.specs.Columns.{Columns, column_count}

@@ -32,22 +32,18 @@ use Rattle.plan_laws.proofs.ConnectedLaws.{told_connects}
 use Rattle.plan.specs.Spans.{chunk_told, chunk_count_of, in_chunk, place_in, past_last, column_span, local_spans, Spread}
 use Rattle.plan.specs.Plan.{Buffers, lent as lentBack}
 use Rattle.plan.specs.contracts.structure.plan as planning
-use Rattle.plan.proofs.structure.plan.Kinds as planKinds
 use Rattle.plan.proofs.structure.plan.Reads as plan
 use Rattle.products.specs.declared.side.Side.{Side}
 use Rattle.products.specs.declared.side.Side.TheVariants as side
 use Rattle.products.specs.Orders.{entry_out, span_bad, chunk_bad, starts_bad, plan_bad, bad_plan, span_count, span_terms, served, has_next, place_bad, chunk_left, bad_order, order_terms, step_order, step_of, sweep_of}
 use Rattle.products.specs.Operator.{Operands, Work as Results, damp_length}
 use Rattle.products.specs.contracts.operator.apply_schur_operator as operating
-use Rattle.products.proofs.operator.apply_schur_operator.Kinds as operatorKinds
 use Rattle.products.proofs.operator.apply_schur_operator.Reads as operator
 use Rattle.products.specs.contracts.order.sweep as sweeping
-use Rattle.products.proofs.order.sweep.Kinds as sweepKinds
 use Rattle.products.proofs.order.sweep.Reads as sweep
 use Rattle.products.specs.contracts.order.step as stepping
-use Rattle.products.proofs.order.step.Kinds as stepKinds
 use Rattle.products.proofs.order.step.Reads as step
-use Rattle.hall.specs.Hall.{f, hall, moved, kept, elims, owners, row_lists, visible, kept_lists, elims_lists, v, first_rows_of, t, u, last_rows, minus, operands, unused_map, unused_buffers, unused_work}
+use Rattle.hall.specs.Hall.{f, hall, moved, kept, elims, kept_lists, elims_lists, v, first_rows_of, t, u, last_rows, minus, operands, unused_map, unused_buffers, unused_work}
 use Rattle.hall.specs.Table.{filled_map, marked_map, plan_lists}
 use Rattle.hall.proofs.HallTable.{hall_table}
 use Rattle.blocks.specs.Access.{square_of, squares_before}

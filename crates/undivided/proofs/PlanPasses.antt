@@ -8,7 +8,6 @@ use native.Mathlib.Omega.{arith}
 use lib.ListN.{length, get_or, length-map}
 use lib.Seq.{take_at}
 use borrow.Author.Tests.{eq-eqb, le-ltb, lt-leb}
-use Rattle.ground.specs.First.{some}
 use Rattle.ground.proofs.FirstLaws.{none_past}
 use Rattle.ground.proofs.GatherLaws.{gather_none, length-list_of}
 use Rattle.columns.specs.Refusals.{done}
