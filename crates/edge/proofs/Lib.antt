@@ -1,2 +1,1 @@
-pub mod EdgeLaws
 pub mod Determined
