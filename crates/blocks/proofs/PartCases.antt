@@ -1,11 +1,9 @@
 -- Lookups and block access on small and on wild lists, computed: what the definitions say, case by case. Assumes nothing.
 use mathlib.Core.Path.{◌≡◌, refl}
-use mathlib.Core.List.{List, [], ◌∷◌, map}
+use mathlib.Core.List.{[], ◌∷◌, map}
 use Prim.Native.Nat.{ℕ}
 use Rattle.ground.specs.First.{first, first_n}
-use Rattle.blocks.specs.declared.partition.Number.{Number}
 use Rattle.blocks.specs.declared.partition.Number.TheVariants.{Is, Nothing}
-use Rattle.blocks.specs.declared.partition.ColSlot.{ColSlot}
 use Rattle.blocks.specs.declared.partition.ColSlot.TheVariants as slot
 use Rattle.blocks.specs.declared.eliminated_blocks.Place.{Place}
 use Rattle.blocks.specs.Sides.{offset_of}

@@ -3,8 +3,8 @@
 use Rattle.ground.proofs.ListLaws.{gather-at}
 use mathlib.Core.Path.{◌≡◌, refl, sym, ap, ◌∙◌}
 use mathlib.Core.Bool.{Bool, true, false, cond}
-use mathlib.Core.List.{List, [], ◌∷◌}
-use Prim.Native.Nat.{ℕ, suc, ◌+◌, ◌-◌, ◌*◌, ◌≤◌, ◌<◌}
+use mathlib.Core.List.{List}
+use Prim.Native.Nat.{ℕ, suc, ◌+◌, ◌*◌, ◌≤◌, ◌<◌}
 use native.Mathlib.Omega.{arith}
 use native.Mathlib.Nat.{mul-one, suc-mul, mul-le-mul_right}
 use native.Mathlib.Decide.{dec_lt}
@@ -21,7 +21,7 @@ use Rattle.columns.specs.JacobianOps.{dot_of}
 use Rattle.blocks.specs.declared.damping.Damping.{Damping}
 use Rattle.blocks.specs.Sides.{block_count, first_of, dof_of}
 use Rattle.blocks.specs.Damping.{term_of}
-use Rattle.blocks.specs.Access.{square_of, squares_before, entry_place}
+use Rattle.blocks.specs.Access.{squares_before, entry_place}
 use Rattle.blocks.specs.BlockValues.{value_count, dot_entry, dot_column, dot_block, dot_blocks, damp_place, damp_column, damp_block, damp_blocks}
 use Rattle.blocks.proofs.AccessRules.{in_square}
 use Rattle.blocks.proofs.AccessLaws.{entry-inside}

@@ -4,7 +4,7 @@ use Rattle.ground.proofs.ListLaws.{list_of_same, list_of_all, set-list_of, get_d
 use mathlib.Core.Path.{◌≡◌, refl, sym, ap, ◌∙◌}
 use mathlib.Core.Bool.{true, false, cond}
 use mathlib.Core.List.{List, [], ◌∷◌, ◌++◌, append_assoc, append-nil}
-use Prim.Native.Nat.{ℕ, zero, suc, ◌+◌, ◌-◌, ◌≤◌, ◌<◌}
+use Prim.Native.Nat.{ℕ, zero, suc, ◌+◌, ◌≤◌, ◌<◌}
 use native.Mathlib.Nat.{le_of_eq}
 use native.Mathlib.Decide.{dec_lt}
 use native.Mathlib.Omega.{arith}

@@ -9,35 +9,11 @@ use native.Mathlib.Omega.{arith}
 use lib.Dec.{ltb, leb, eqb}
 use lib.ListN.{length, get_or}
 use borrow.Author.Tests.{lt-ltb, le-ltb, lt-leb, eq-eqb, ne_eqb, ltb-true, ltb-false, leb-false, eqb-true, eqb-false, not-false}
-use Rattle.ground.specs.First.{first, some}
+use Rattle.ground.specs.First.{first}
 use Rattle.ground.proofs.TestLaws.{rises_by}
 use Rattle.ground.proofs.FirstLaws.{past_none, none_past, first_stop, first-low}
 use Rattle.columns.specs.Refusals.{tell, done, Passes}
-use Rattle.columns.specs.Columns.{
-  Columns,
-  columns_of,
-  column_count,
-  entry_count,
-  first_in,
-  end_in,
-  first_place,
-  end_place,
-  too_big,
-  falls,
-  bad_shape,
-  row_falls,
-  row_bad,
-  bad_place,
-  column_bad,
-  bad_column,
-  bad_row,
-  checked,
-  Small,
-  Shaped,
-  EntryOf,
-  Sorted,
-  Keeps,
-}
+use Rattle.columns.specs.Columns.{Columns, columns_of, column_count, entry_count, first_in, end_in, first_place, end_place, too_big, falls, bad_shape, row_falls, row_bad, column_bad, bad_column, bad_row, checked, Small, Shaped, EntryOf, Sorted, Keeps}
 use Rattle.columns.specs.Unchecked.{ColumnThere, RunThere, RunsThere, EntriesFit, HasColumn, Gathers}
 use Rattle.columns.proofs.RefusalLaws.{passed}
 

@@ -29,7 +29,7 @@ use Rattle.columns.specs.declared.refusal.Refusal.TheVariants.{
 }
 use Rattle.columns.specs.declared.refusal.Answer.{Answer}
 use Rattle.columns.specs.declared.refusal.Answer.TheVariants.{Done, Refused}
-use Rattle.columns.specs.Refusals.{number, values, Told, tell, done, refused, told, Passes, on_pass, or_else, sooner}
+use Rattle.columns.specs.Refusals.{number, Told, tell, done, refused, told, Passes, on_pass, or_else, sooner}
 
 -- ---- the refusal of a number and values
 

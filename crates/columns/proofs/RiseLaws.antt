@@ -9,7 +9,7 @@ use lib.Dec.{ltb, leb, eqb}
 use lib.ListN.{length, get_or}
 use borrow.Author.Tests.{lt-ltb, le-ltb, le-leb, lt-leb, ltb-true, ltb-false, leb-false, eqb-true, not-true}
 use mir.Val.{bool_byte}
-use Rattle.ground.specs.First.{first, some, None}
+use Rattle.ground.specs.First.{some, None}
 use Rattle.ground.proofs.FirstLaws.{past_none, none_past}
 use Rattle.ground.proofs.Rules.{searches}
 use Rattle.ground.proofs.TestLaws.{and_true}

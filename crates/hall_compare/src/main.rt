@@ -9,22 +9,21 @@ use hall::tables::{
 };
 use plan::structure::{Planned, plan};
 use products::operator::apply_schur_operator;
+use std::io;
 
 // What a float is: +0.0, NaN or something else. Of the two zeros only +0.0 has a positive inverse.
-fn write_float(x: f64) {
+fn write_float(rt: &impl Print, x: f64) -> io::Result<()> {
     if x != x {
-        io::write_all(1, b" NaN");
-        return;
+        return print!(rt; " NaN");
     }
     if (x == 0.0) & (1.0 / x > 0.0) {
-        io::write_all(1, b" +0.0");
-        return;
+        return print!(rt; " +0.0");
     }
-    io::write_all(1, b" other");
+    print!(rt; " other")
 }
 
 // Case 9: the operator on v = 0, over the hall with NaN for its first value. Its rows and its result.
-fn case9() {
+fn case9(rt: &impl Print) -> io::Result<()> {
     let mut values = VALUES;
     values[0] = 0.0 / 0.0;
     let mut map = [UNUSED; 3];
@@ -58,18 +57,17 @@ fn case9() {
         &mut out,
     );
     if let Answer::Refused(_) = answer {
-        io::write_all(1, b"case 9: refused\n");
-        return;
+        return println!(rt; "case 9: refused");
     }
-    io::write_all(1, b"case 9: rows");
-    write_float(rows[0]);
-    write_float(rows[1]);
-    write_float(rows[2]);
-    write_float(rows[3]);
-    write_float(rows[4]);
-    io::write_all(1, b", out");
-    write_float(out[0]);
-    io::write_all(1, b"\n");
+    print!(rt; "case 9: rows")?;
+    write_float(rt, rows[0])?;
+    write_float(rt, rows[1])?;
+    write_float(rt, rows[2])?;
+    write_float(rt, rows[3])?;
+    write_float(rt, rows[4])?;
+    print!(rt; ", out")?;
+    write_float(rt, out[0])?;
+    println!(rt)
 }
 
 // The number that planning the hall answers with this chunk length. The buffers have room for chunks of one row.
@@ -127,24 +125,22 @@ fn plan_number(chunk_len: usize) -> u32 {
 }
 
 // Case 10: what planning answers with one chunk length, which `head` names.
-fn case10(head: &[u8], chunk_len: usize) {
-    io::write_all(1, head);
+fn case10(rt: &impl Print, head: &str, chunk_len: usize) -> io::Result<()> {
+    print!(rt; "{head}")?;
     let number = plan_number(chunk_len);
     if number == 0 {
-        io::write_all(1, b" accepted\n");
-        return;
+        return println!(rt; " accepted");
     }
     if number == 5 {
-        io::write_all(1, b" refused with 5\n");
-        return;
+        return println!(rt; " refused with 5");
     }
-    io::write_all(1, b" refused with another number\n");
+    println!(rt; " refused with another number")
 }
 
-fn main() {
-    case9();
-    case10(b"case 10: L = 0", 0);
-    case10(b"case 10: L = 1", 1);
-    case10(b"case 10: L = 1,048,576", 1_048_576);
-    case10(b"case 10: L = 1,048,577", 1_048_577);
+fn main(rt: HostRuntime) -> io::Result<()> {
+    case9(&rt)?;
+    case10(&rt, "case 10: L = 0", 0)?;
+    case10(&rt, "case 10: L = 1", 1)?;
+    case10(&rt, "case 10: L = 1,048,576", 1_048_576)?;
+    case10(&rt, "case 10: L = 1,048,577", 1_048_577)
 }

@@ -1,10 +1,12 @@
 // Runs the built-in hall, cases 1 to 8, and prints one line. It takes no input.
 #![tactic(auto)]
 
-fn main() {
+use std::io;
+
+fn main(rt: HostRuntime) -> io::Result<()> {
     if hall::hall_ok() {
-        io::write_all(1, b"hall ok\n");
+        println!(rt; "hall ok")
     } else {
-        io::write_all(1, b"hall bad\n");
+        println!(rt; "hall bad")
     }
 }

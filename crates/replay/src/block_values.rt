@@ -8,6 +8,7 @@ use crate::list::{
 use blocks::check::check_blocks;
 use blocks::eliminated_blocks::{damp, gather_from_jacobian};
 use columns::refusal::{Answer, Refusal};
+use std::io;
 
 // Whether a refusal is the one of list 7, which has one value.
 fn same_refusal(r: Refusal, case: &[u64]) -> bool {
@@ -150,9 +151,9 @@ pub(crate) fn has_lists(kind: u64, case: &[u64]) -> bool {
 }
 
 // Writes how many cases of these kinds were compared.
-pub(crate) fn write_counts(counts: &[u64; COUNTS]) {
-    write_count(b", check_blocks ", counts[9]);
-    write_count(b", its refusals ", counts[10]);
-    write_count(b", gather_from_jacobian ", counts[11]);
-    write_count(b", damp ", counts[12]);
+pub(crate) fn write_counts(rt: &impl Print, counts: &[u64; COUNTS]) -> io::Result<()> {
+    write_count(rt, ", check_blocks ", counts[9])?;
+    write_count(rt, ", its refusals ", counts[10])?;
+    write_count(rt, ", gather_from_jacobian ", counts[11])?;
+    write_count(rt, ", damp ", counts[12])
 }

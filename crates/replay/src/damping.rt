@@ -3,6 +3,7 @@ use crate::bits::pattern;
 use crate::kinds::{COUNTS, write_count};
 use crate::list::{float_at, list, same, well_formed};
 use blocks::damping::{Damping, DiagonalTerm};
+use std::io;
 
 // Lambda and the limits of list k.
 pub(crate) fn damping(case: &[u64], k: usize) -> Damping {
@@ -60,7 +61,7 @@ pub(crate) fn has_lists(kind: u64, case: &[u64]) -> bool {
 }
 
 // Writes how many cases of these kinds were compared.
-pub(crate) fn write_counts(counts: &[u64; COUNTS]) {
-    write_count(b", diagonal_term ", counts[13]);
-    write_count(b", identity ", counts[14]);
+pub(crate) fn write_counts(rt: &impl Print, counts: &[u64; COUNTS]) -> io::Result<()> {
+    write_count(rt, ", diagonal_term ", counts[13])?;
+    write_count(rt, ", identity ", counts[14])
 }

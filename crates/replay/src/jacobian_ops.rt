@@ -4,6 +4,7 @@ use crate::kinds::{COUNTS, write_count};
 use crate::list::{f64_room, list, number, places, same, take_f64, well_formed};
 use columns::jacobian_ops::{Dot, column_dot, diag_jt_j, jt_j_vec_product, jt_vec};
 use columns::refusal::Answer;
+use std::io;
 
 // Kind 1: list 4 has the two columns, list 5 their dot.
 fn same_column_dot(case: &[u64], ptrs: &[u32], rows: &[u32], values: &[f64]) -> bool {
@@ -115,9 +116,9 @@ pub(crate) fn has_lists(kind: u64, case: &[u64]) -> bool {
 }
 
 // Writes how many cases of these kinds were compared.
-pub(crate) fn write_counts(counts: &[u64; COUNTS]) {
-    write_count(b"column_dot ", counts[1]);
-    write_count(b", jt_vec ", counts[2]);
-    write_count(b", diag_jt_j ", counts[3]);
-    write_count(b", jt_j_vec_product ", counts[4]);
+pub(crate) fn write_counts(rt: &impl Print, counts: &[u64; COUNTS]) -> io::Result<()> {
+    write_count(rt, "column_dot ", counts[1])?;
+    write_count(rt, ", jt_vec ", counts[2])?;
+    write_count(rt, ", diag_jt_j ", counts[3])?;
+    write_count(rt, ", jt_j_vec_product ", counts[4])
 }

@@ -1,5 +1,6 @@
 // The kinds of cases, by their numbers. A layer brings its own modules, their arms and a line of `write_counts` for each.
 use crate::{block_values, damping, jacobian_ops, partition, with_columns};
+use std::io;
 
 // Room for a count at each kind's number, so the numbers are below it.
 pub(crate) const COUNTS: usize = 32;
@@ -45,15 +46,14 @@ pub(crate) fn replay(kind: u64, case: &[u64]) -> Outcome {
 }
 
 // Writes a name and a count.
-pub(crate) fn write_count(name: &[u8], count: u64) {
-    io::write_all(1, name);
-    io::print_decimal(1, count);
+pub(crate) fn write_count(rt: &impl Print, name: &str, count: u64) -> io::Result<()> {
+    print!(rt; "{name}{count}")
 }
 
 // Writes how many cases of each kind were compared.
-pub(crate) fn write_counts(counts: &[u64; COUNTS]) {
-    jacobian_ops::write_counts(counts);
-    partition::write_counts(counts);
-    block_values::write_counts(counts);
-    damping::write_counts(counts);
+pub(crate) fn write_counts(rt: &impl Print, counts: &[u64; COUNTS]) -> io::Result<()> {
+    jacobian_ops::write_counts(rt, counts)?;
+    partition::write_counts(rt, counts)?;
+    block_values::write_counts(rt, counts)?;
+    damping::write_counts(rt, counts)
 }

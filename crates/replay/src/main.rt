@@ -14,8 +14,12 @@ mod tally;
 mod with_columns;
 
 ghost use Rattle.std.specs.Prelude.{◌≡◌, length};
+ghost use Rattle.replay.specs.Counts.{Counts};
 
 use list::take_words;
+use std::io::Read;
+use std::rt::Files;
+use std::{fs, io};
 use tally::{Tally, replay_list};
 
 // Room for a list, which has fewer than 1,000,000 bytes, and a word more, so that a longer file shows.
@@ -39,27 +43,38 @@ fn replay_bytes(bytes: &[u8], more: bool) -> Tally {
     replay_list(&words[..n], more)
 }
 
+// Reads until the room is full, the file ends or a read fails, and answers how many bytes stand at its start.
+fn read_full(file: &mut impl Read, room: &mut [u8]) -> usize
+    ensures { Counts result room.new }
+{
+    let mut done = 0;
+    while done < room.len() {
+        let n = file.read(&mut room[done..]).unwrap_or(0);
+        if n == 0 {
+            return done;
+        }
+        done += n;
+    }
+    done
+}
+
 // Replays the list in an open file. There is more than a list where bytes are left that make no word, or where the room is full.
-fn replay_open(fd: i32) -> Tally {
+fn replay_open(file: &mut impl Read) -> Tally {
     let mut bytes = file_room();
-    let n = io::read_full(fd, &mut bytes);
+    let n = read_full(file, &mut bytes);
     let more = n % 8 != 0 || n == 1_000_008;
     replay_bytes(&bytes[..n], more)
 }
 
 // Replays the list in the file `name`, and writes its line, which `head` begins.
-fn replay_file(name: &[u8], head: &[u8]) {
-    let fd = os::open_read(name);
-    if fd < 0 {
-        io::write_all(1, head);
-        io::write_all(1, b"cannot be opened\n");
-        return;
+fn replay_file(rt: &(impl Files + Print), name: &str, head: &str) -> io::Result<()> {
+    match fs::open(rt, name) {
+        Ok(mut file) => replay_open(&mut file).write(rt, head),
+        Err(_) => println!(rt; "{head}cannot be opened"),
     }
-    replay_open(fd).write(head);
-    libc::close(fd);
 }
 
-fn main() {
-    replay_file(b"answers", b"answers: ");
-    replay_file(b"flipped", b"flipped: ");
+fn main(rt: HostRuntime) -> io::Result<()> {
+    replay_file(&rt, "answers", "answers: ")?;
+    replay_file(&rt, "flipped", "flipped: ")
 }

@@ -5,6 +5,7 @@ use blocks::eliminated_blocks::{block_place, dof};
 use blocks::partition::{
     ColSlot, Number, Within, eliminated_local, eliminated_offset, kept_local, kept_offset, slot,
 };
+use std::io;
 
 // What the lists have where a lookup finds nothing.
 const NONE: usize = 4_294_967_295;
@@ -121,9 +122,9 @@ pub(crate) fn has_lists(kind: u64, case: &[u64]) -> bool {
 }
 
 // Writes how many cases of these kinds were compared.
-pub(crate) fn write_counts(counts: &[u64; COUNTS]) {
-    write_count(b", lookups ", counts[5]);
-    write_count(b", block_place ", counts[6]);
-    write_count(b", kept_offset ", counts[7]);
-    write_count(b", eliminated_offset ", counts[8]);
+pub(crate) fn write_counts(rt: &impl Print, counts: &[u64; COUNTS]) -> io::Result<()> {
+    write_count(rt, ", lookups ", counts[5])?;
+    write_count(rt, ", block_place ", counts[6])?;
+    write_count(rt, ", kept_offset ", counts[7])?;
+    write_count(rt, ", eliminated_offset ", counts[8])
 }

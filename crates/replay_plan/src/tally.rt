@@ -3,6 +3,7 @@ ghost use Rattle.std.specs.Prelude.{◌+◌, ◌≤◌, length};
 
 use crate::call::{is_refused, is_same};
 use crate::list::number_at;
+use std::io;
 use std::num::wrapping_add_u64;
 
 // The size of the case at `at`; 0 where no whole case stands there.
@@ -31,9 +32,8 @@ pub(crate) struct Tally {
 }
 
 // Writes a name and a count.
-fn write_count(name: &[u8], count: u64) {
-    io::write_all(1, name);
-    io::print_decimal(1, count);
+fn write_count(rt: &impl Print, name: &str, count: u64) -> io::Result<()> {
+    print!(rt; "{name}{count}")
 }
 
 impl Tally {
@@ -77,35 +77,36 @@ impl Tally {
     }
 
     // Writes the number of the differing case k, where there is one and it was kept.
-    fn write_case(self, k: usize) {
+    fn write_case(self, rt: &impl Print, k: usize) -> io::Result<()> {
         if k as u64 >= self.differ {
-            return;
+            return Ok(());
         }
         if k >= SHOWN {
-            return;
+            return Ok(());
         }
         if k == 0 {
-            write_count(b": case ", self.shown[k]);
+            write_count(rt, ": case ", self.shown[k])
         } else {
-            write_count(b", case ", self.shown[k]);
+            write_count(rt, ", case ", self.shown[k])
         }
     }
 
     // Writes the numbers of all differing cases that were kept.
-    fn write_cases(self) {
+    fn write_cases(self, rt: &impl Print) -> io::Result<()> {
         for k in 0..SHOWN {
-            self.write_case(k);
+            self.write_case(rt, k)?;
         }
+        Ok(())
     }
 
     // Writes a list's line, which `head` begins.
-    pub(crate) fn write(self, head: &[u8]) {
-        write_count(head, self.plans);
-        write_count(b" plans compared, ", self.refused);
-        write_count(b" of them refused, ", self.differ);
-        io::write_all(1, b" differ");
-        self.write_cases();
-        io::write_all(1, b"\n");
+    pub(crate) fn write(self, rt: &impl Print, head: &str) -> io::Result<()> {
+        write_count(rt, head, self.plans)?;
+        write_count(rt, " plans compared, ", self.refused)?;
+        write_count(rt, " of them refused, ", self.differ)?;
+        print!(rt; " differ")?;
+        self.write_cases(rt)?;
+        println!(rt)
     }
 }
 

@@ -3,22 +3,18 @@
 ghost use Rattle.std.specs.Prelude.{◌≡◌, from_bits, to_bits};
 ghost use Rattle.std.specs.Float.{binary64};
 
-// The float of a bit pattern; a NaN for every NaN pattern, since `f64::from_bits` takes none.
+use std::num::{f64_from_bits_with_nan, f64_to_bits_with_nan};
+
+// The float of a bit pattern; a NaN for every NaN pattern, of which `f64::from_bits` takes none.
 pub(crate) fn float(word: u64) -> f64
     ensures { result ≡ from_bits binary64 word }
 {
-    if word % 0x8000_0000_0000_0000 > 0x7ff0_0000_0000_0000 {
-        return 0.0 / 0.0;
-    }
-    f64::from_bits(word)
+    f64_from_bits_with_nan(word)
 }
 
 // The bit pattern of a float, with one pattern for every NaN.
 pub(crate) fn pattern(x: f64) -> u64
     ensures { result ≡ to_bits binary64 x }
 {
-    if x != x {
-        return 0x7ff8_0000_0000_0000;
-    }
-    f64::to_bits(x)
+    f64_to_bits_with_nan(x)
 }

@@ -4,6 +4,7 @@ use crate::list::{list, number_at, well_formed};
 use crate::planned::{same_operator, same_sweep};
 use crate::unplanned::{same_coupling, same_inverse, same_update};
 use products::side::Side;
+use std::io;
 
 // Room for a count at each kind's number.
 pub(crate) const COUNTS: usize = 13;
@@ -71,38 +72,37 @@ pub(crate) fn replay(problem: &[u32], case: &[u32]) -> Outcome {
 }
 
 // Writes a name and a count.
-pub(crate) fn write_count(name: &[u8], count: u64) {
-    io::write_all(1, name);
-    io::print_decimal(1, count);
+pub(crate) fn write_count(rt: &impl Print, name: &str, count: u64) -> io::Result<()> {
+    print!(rt; "{name}{count}")
 }
 
 // Writes how many cases over the original's plans were compared, by their kinds.
-fn write_planned(counts: &[u64; COUNTS]) {
-    write_count(b"operator ", counts[1]);
-    write_count(b", damped ", counts[2]);
-    write_count(b", kept sweep ", counts[3]);
-    write_count(b", eliminated sweep ", counts[4]);
+fn write_planned(rt: &impl Print, counts: &[u64; COUNTS]) -> io::Result<()> {
+    write_count(rt, "operator ", counts[1])?;
+    write_count(rt, ", damped ", counts[2])?;
+    write_count(rt, ", kept sweep ", counts[3])?;
+    write_count(rt, ", eliminated sweep ", counts[4])
 }
 
 // Over plans from elsewhere.
-fn write_foreign(counts: &[u64; COUNTS]) {
-    write_count(b", over foreign plans: operator ", counts[9]);
-    write_count(b", damped ", counts[10]);
-    write_count(b", kept sweep ", counts[11]);
-    write_count(b", eliminated sweep ", counts[12]);
+fn write_foreign(rt: &impl Print, counts: &[u64; COUNTS]) -> io::Result<()> {
+    write_count(rt, ", over foreign plans: operator ", counts[9])?;
+    write_count(rt, ", damped ", counts[10])?;
+    write_count(rt, ", kept sweep ", counts[11])?;
+    write_count(rt, ", eliminated sweep ", counts[12])
 }
 
 // Without a plan.
-fn write_unplanned(counts: &[u64; COUNTS]) {
-    write_count(b", without a plan: inverse ", counts[5]);
-    write_count(b", coupling ", counts[6]);
-    write_count(b", transpose ", counts[7]);
-    write_count(b", update ", counts[8]);
+fn write_unplanned(rt: &impl Print, counts: &[u64; COUNTS]) -> io::Result<()> {
+    write_count(rt, ", without a plan: inverse ", counts[5])?;
+    write_count(rt, ", coupling ", counts[6])?;
+    write_count(rt, ", transpose ", counts[7])?;
+    write_count(rt, ", update ", counts[8])
 }
 
 // Writes how many cases of each kind were compared.
-pub(crate) fn write_counts(counts: &[u64; COUNTS]) {
-    write_planned(counts);
-    write_foreign(counts);
-    write_unplanned(counts);
+pub(crate) fn write_counts(rt: &impl Print, counts: &[u64; COUNTS]) -> io::Result<()> {
+    write_planned(rt, counts)?;
+    write_foreign(rt, counts)?;
+    write_unplanned(rt, counts)
 }

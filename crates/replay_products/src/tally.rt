@@ -3,6 +3,7 @@ ghost use Rattle.std.specs.Prelude.{◌+◌, ◌≤◌, length};
 
 use crate::kinds::{COUNTS, Outcome, replay, write_count, write_counts};
 use crate::list::number_at;
+use std::io;
 use std::num::wrapping_add_u64;
 
 // The size of the record at `at`; 0 where no whole record stands there.
@@ -98,37 +99,38 @@ impl Tally {
     }
 
     // Writes the number of the differing case k, where there is one and it was kept.
-    fn write_case(self, k: usize) {
+    fn write_case(self, rt: &impl Print, k: usize) -> io::Result<()> {
         if k as u64 >= self.differ {
-            return;
+            return Ok(());
         }
         if k >= SHOWN {
-            return;
+            return Ok(());
         }
         if k == 0 {
-            write_count(b": case ", self.shown[k]);
+            write_count(rt, ": case ", self.shown[k])
         } else {
-            write_count(b", case ", self.shown[k]);
+            write_count(rt, ", case ", self.shown[k])
         }
     }
 
     // Writes the numbers of all differing cases that were kept.
-    fn write_cases(self) {
+    fn write_cases(self, rt: &impl Print) -> io::Result<()> {
         for k in 0..SHOWN {
-            self.write_case(k);
+            self.write_case(rt, k)?;
         }
+        Ok(())
     }
 
     // Writes a list's line, which `head` begins.
-    pub(crate) fn write(self, head: &[u8]) {
+    pub(crate) fn write(self, rt: &impl Print, head: &str) -> io::Result<()> {
         let by_kind = self.by_kind;
-        write_count(head, self.compared);
-        io::write_all(1, b" compared (");
-        write_counts(&by_kind);
-        write_count(b"), ", self.differ);
-        io::write_all(1, b" differ");
-        self.write_cases();
-        io::write_all(1, b"\n");
+        write_count(rt, head, self.compared)?;
+        print!(rt; " compared (")?;
+        write_counts(rt, &by_kind)?;
+        write_count(rt, "), ", self.differ)?;
+        print!(rt; " differ")?;
+        self.write_cases(rt)?;
+        println!(rt)
     }
 }
 

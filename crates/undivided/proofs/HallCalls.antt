@@ -9,7 +9,8 @@ use Prim.Native.Nat.{ℕ, zero, suc, ◌<◌}
 use native.Mathlib.Nat.{le_refl}
 use native.Mathlib.Omega.{arith}
 use contract.Lifetimes.{Lfts}
-use denote.Ref.{Bor}
+use denote.Bor.{Bor}
+use denote.MutBor.{MutBor}
 use borrow.Fn.World.{ArgsD}
 use lib.ListN.{get_or, replicate}
 use lib.Ieee.{Float, of_int, of_bits, neg, add, sub, mul, eq}
@@ -61,6 +62,10 @@ use Rattle.undivided.proofs.Hall.{hall_sound, hall_unconnected, kept_serves, eli
 abbrev slice : {X : Type 0} → X → Bor X
 slice x = record { ref_ptr = (0, 0); now = x }
 
+-- and a buffer
+abbrev buffer : {X : Type 0} → X → MutBor X
+buffer x = record { ref_ptr = (0, 0); ghost_name = 0; now = x }
+
 -- a call's arguments, one after the other
 infixr 30 ◌▸◌
 abbrev ◌▸◌ : {X Y : Type 0} → X → Y → X × Y
@@ -72,11 +77,11 @@ module _ (κs : Lfts 22) where
   -- columns with the hall's blocks and chunks of two rows, and these buffers: before the call, and as it leaves them
   abbrev plan_on : Columns → Buffers → ArgsD planning.signature κs
   plan_on m b =
-      m.nrows ▸ slice m.ptrs ▸ slice m.rows ▸ slice m.values ▸ slice kept ▸ slice elims ▸ 2 ▸ slice b.map ▸
-      slice b.kept_cols ▸ slice b.elims_cols ▸ slice b.elims_blocks ▸ slice b.owners ▸ slice b.row_lists.list ▸
-      slice b.row_lists.starts ▸ slice b.visible.list ▸ slice b.visible.starts ▸ slice b.kept.starts ▸
-      slice b.kept.lo ▸ slice b.kept.hi ▸ slice b.kept.local ▸ slice b.elims.starts ▸ slice b.elims.lo ▸
-      slice b.elims.hi ▸ slice b.elims.local ▸ tt
+      m.nrows ▸ slice m.ptrs ▸ slice m.rows ▸ slice m.values ▸ slice kept ▸ slice elims ▸ 2 ▸ buffer b.map ▸
+      buffer b.kept_cols ▸ buffer b.elims_cols ▸ buffer b.elims_blocks ▸ buffer b.owners ▸ buffer b.row_lists.list ▸
+      buffer b.row_lists.starts ▸ buffer b.visible.list ▸ buffer b.visible.starts ▸ buffer b.kept.starts ▸
+      buffer b.kept.lo ▸ buffer b.kept.hi ▸ buffer b.kept.local ▸ buffer b.elims.starts ▸ buffer b.elims.lo ▸
+      buffer b.elims.hi ▸ buffer b.elims.local ▸ tt
 
   abbrev plan_call : Buffers → ArgsD planning.signature κs
   plan_call b = plan_on hall b
@@ -128,8 +133,8 @@ module _ (κs : Lfts 14) where
   -- a sweep of a side along that order, with its map, rows and progress before the call, and as it leaves them
   abbrev sweep_call : Side → List Float → Spread → Lent → ArgsD sweeping.signature κs
   sweep_call e x s w =
-      e ▸ hall.nrows ▸ slice hall.ptrs ▸ slice hall.rows ▸ slice hall.values ▸ slice kept ▸ slice elims ▸ slice w.map ▸
-      2 ▸ slice x ▸ slice s.starts ▸ slice s.lo ▸ slice s.hi ▸ slice s.local ▸ slice w.rows ▸ slice w.progress ▸
+      e ▸ hall.nrows ▸ slice hall.ptrs ▸ slice hall.rows ▸ slice hall.values ▸ slice kept ▸ slice elims ▸ buffer w.map ▸
+      2 ▸ slice x ▸ slice s.starts ▸ slice s.lo ▸ slice s.hi ▸ slice s.local ▸ buffer w.rows ▸ buffer w.progress ▸
       slice order ▸ tt
 
   -- the kept sweep clears the rows that it is lent; the eliminated one goes on from them
@@ -165,8 +170,8 @@ module _ (κs : ℕ → Lfts 13) where
   -- a step of a side, of the chunk at a place of that order
   abbrev step_call : (i : ℕ) → Side → List Float → Spread → Lent → ArgsD stepping.signature (κs i)
   step_call i e x s w =
-      e ▸ hall.nrows ▸ slice hall.ptrs ▸ slice hall.rows ▸ slice hall.values ▸ slice kept ▸ slice elims ▸ slice w.map ▸ 2 ▸
-      slice x ▸ slice s.starts ▸ slice s.lo ▸ slice s.hi ▸ slice s.local ▸ slice w.rows ▸ slice w.progress ▸ get_or order i 0 ▸ tt
+      e ▸ hall.nrows ▸ slice hall.ptrs ▸ slice hall.rows ▸ slice hall.values ▸ slice kept ▸ slice elims ▸ buffer w.map ▸ 2 ▸
+      slice x ▸ slice s.starts ▸ slice s.lo ▸ slice s.hi ▸ slice s.local ▸ buffer w.rows ▸ buffer w.progress ▸ get_or order i 0 ▸ tt
 
   -- how often each chunk is served before each place, and at the end
   abbrev counts : List (List ℕ)
@@ -255,10 +260,10 @@ module _ (κs : ℕ → Lfts 13) where
 module _ (κs : Lfts 21) where
   abbrev operator_call : List ℕ → Operands → Results → ArgsD operating.signature κs
   operator_call map o w =
-      hall.nrows ▸ slice hall.ptrs ▸ slice hall.rows ▸ slice hall.values ▸ slice kept ▸ slice elims ▸ slice map ▸ 2 ▸ slice o.v ▸ slice o.inverses ▸ slice o.d ▸
+      hall.nrows ▸ slice hall.ptrs ▸ slice hall.rows ▸ slice hall.values ▸ slice kept ▸ slice elims ▸ buffer map ▸ 2 ▸ slice o.v ▸ slice o.inverses ▸ slice o.d ▸
       slice o.kept.starts ▸ slice o.kept.lo ▸ slice o.kept.hi ▸ slice o.kept.local ▸
       slice o.elims.starts ▸ slice o.elims.lo ▸ slice o.elims.hi ▸ slice o.elims.local ▸
-      slice w.rows ▸ slice w.t ▸ slice w.u ▸ slice w.out ▸ tt
+      buffer w.rows ▸ buffer w.t ▸ buffer w.u ▸ buffer w.out ▸ tt
 
   abbrev results : Results
   results = record { rows = last_rows; t = t; u = u; out = f 1 ∷ [] }

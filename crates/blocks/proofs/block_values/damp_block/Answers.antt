@@ -1,7 +1,6 @@
 -- `blocks::block_values::damp_block` meets its contract. Assumes nothing.
 use native.Mathlib.Omega.{arith}
 use Rattle.blocks.proofs.ValueRules.{diagonal_in}
-use Prim.Native.Nat.{◌-◌}
 use Rattle.blocks.proofs.ValueRules.{values}
 use Rattle.blocks.proofs.block_values.damp_block.Goals as goal
 

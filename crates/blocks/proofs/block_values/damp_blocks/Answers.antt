@@ -1,7 +1,6 @@
 -- `blocks::block_values::damp_blocks` meets its contract. Assumes nothing.
 use native.Mathlib.Omega.{arith}
 use Rattle.blocks.proofs.ValueRules.{values-fit}
-use Prim.Native.Nat.{◌-◌}
 use mathlib.Core.Path.{refl}
 use Rattle.blocks.proofs.ValueRules.{values}
 use Rattle.blocks.proofs.block_values.damp_blocks.Goals as goal

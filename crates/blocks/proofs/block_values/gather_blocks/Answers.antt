@@ -1,7 +1,6 @@
 -- `blocks::block_values::gather_blocks` meets its contract. Assumes nothing.
 use native.Mathlib.Omega.{arith}
 use Rattle.blocks.proofs.ValueRules.{values-fit, squares_after, blocks_turn}
-use Prim.Native.Nat.{◌-◌}
 use mathlib.Core.Path.{refl}
 use Rattle.blocks.proofs.ValueRules.{values}
 use Rattle.blocks.proofs.block_values.gather_blocks.Goals as goal
@@ -27,12 +26,11 @@ overflow_add-at c =
     omega (arith, (values-fit _ c.loop-b.b _ _ c.loop-b.invariant.1 c.block_dof-dof.ensures.value _ _ c.loop-b-test.true refl c.requires.room).room)
 
 pub loop-b-preserved : goal.loop-b-preserved
-loop-b-preserved c =
-    (
-      search values,
-      squares_after _ c.loop-b.b _ _ c.loop-b.invariant.1 c.block_dof-dof.ensures.value,
-      blocks_turn _ c.loop-b.b _ _ c.loop-b.invariant.1 c.block_dof-dof.ensures.value _ _ _ _ _ _ c.first_column-first.ensures.value c.loop-b-test.true c.loop-b.invariant.2 c.put_block.ensures,
-    )
+loop-b-preserved c = (
+  search values,
+  squares_after _ c.loop-b.b _ _ c.loop-b.invariant.1 c.block_dof-dof.ensures.value,
+  blocks_turn _ c.loop-b.b _ _ c.loop-b.invariant.1 c.block_dof-dof.ensures.value _ _ _ _ _ _ c.first_column-first.ensures.value c.loop-b-test.true c.loop-b.invariant.2 c.put_block.ensures,
+)
 
 pub returns : goal.returns
 returns c = search values

@@ -7,7 +7,6 @@ use Rattle.ground.specs.Fold.{folded}
 use lib.ListN.{length}
 use Prim.Native.Nat.{◌-◌}
 use mathlib.Core.Path.{◌≡◌}
-use Rattle.blocks.proofs.ValueRules.{values}
 use Rattle.blocks.proofs.block_values.gather_blocks.Given as goal
 
 abbrev pub invariant-loop-b : goal.invariant-loop-b

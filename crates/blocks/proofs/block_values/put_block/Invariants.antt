@@ -6,7 +6,6 @@ use Rattle.ground.specs.Fold.{folded}
 use lib.ListN.{length}
 use Prim.Native.Nat.{◌+◌, ◌*◌, ◌-◌, ◌≤◌}
 use mathlib.Core.Path.{◌≡◌}
-use Rattle.blocks.proofs.ValueRules.{values}
 use Rattle.blocks.proofs.block_values.put_block.Given as goal
 
 abbrev pub invariant-loop-c : goal.invariant-loop-c

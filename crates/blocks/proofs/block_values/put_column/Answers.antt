@@ -1,5 +1,4 @@
 -- `blocks::block_values::put_column` meets its contract. Assumes nothing.
-use Prim.Native.Nat.{◌-◌}
 use Rattle.blocks.proofs.ValueRules.{values}
 use Rattle.blocks.proofs.block_values.put_column.Goals as goal
 

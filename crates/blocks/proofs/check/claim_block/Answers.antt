@@ -1,6 +1,5 @@
 -- `check::claim_block` meets its contract. Assumes nothing.
 use mathlib.Core.Path.{refl}
-use Prim.Native.Nat.{◌-◌}
 use lib.ListN.{length-set}
 use Rattle.ground.proofs.FoldLaws.{fold_done}
 use Rattle.blocks.proofs.WalkRules.{block_enters, block_out, column-out, column-twice, column-free, room_step}

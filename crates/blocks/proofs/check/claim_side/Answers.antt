@@ -1,6 +1,5 @@
 -- `check::claim_side` meets its contract. Assumes nothing.
 use mathlib.Core.Path.{refl}
-use Prim.Native.Nat.{◌-◌}
 use Rattle.ground.proofs.FoldLaws.{fold_done}
 use Rattle.blocks.proofs.WalkRules.{room_after, side-through, side-stopped}
 use borrow.Author.Rules.{rules}

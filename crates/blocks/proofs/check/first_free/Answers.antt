@@ -1,5 +1,4 @@
 -- `check::first_free` meets its contract. Assumes nothing.
-use Prim.Native.Nat.{◌-◌}
 use Rattle.blocks.proofs.WalkRules.{walking}
 use Rattle.blocks.proofs.check.first_free.Goals as goal
 

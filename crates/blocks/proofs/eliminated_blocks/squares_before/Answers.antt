@@ -1,5 +1,4 @@
 -- `blocks::eliminated_blocks::squares_before` meets its contract. Assumes nothing.
-use Prim.Native.Nat.{◌-◌}
 use Rattle.blocks.proofs.AccessRules.{access}
 use Rattle.blocks.proofs.eliminated_blocks.squares_before.Goals as goal
 

@@ -1,5 +1,4 @@
 -- `blocks::partition::dofs_before` meets its contract. Assumes nothing.
-use Prim.Native.Nat.{◌-◌}
 use Rattle.blocks.proofs.LookupRules.{lookups}
 use Rattle.blocks.proofs.partition.dofs_before.Goals as goal
 

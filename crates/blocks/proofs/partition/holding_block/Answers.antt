@@ -1,5 +1,4 @@
 -- `blocks::partition::holding_block` meets its contract. Assumes nothing.
-use Prim.Native.Nat.{◌-◌}
 use Rattle.blocks.proofs.LookupRules.{lookups}
 use Rattle.blocks.proofs.partition.holding_block.Goals as goal
 

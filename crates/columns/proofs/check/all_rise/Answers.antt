@@ -1,5 +1,4 @@
 -- `columns::check::all_rise` meets its contract. Assumes nothing.
-use Prim.Native.Nat.{◌-◌}
 use mathlib.Core.Path.{refl, ◌∙◌}
 use mathlib.Core.Bool.{true, false}
 use Rattle.ground.proofs.FirstLaws.{some_goes, some_stops, some-ends}

@@ -1,5 +1,4 @@
 -- `columns::check::bad_row` meets its contract. Assumes nothing.
-use Prim.Native.Nat.{◌-◌}
 use Rattle.columns.proofs.CheckLaws.{column-run, bad_row-at, column-good, bad_row_none}
 use Rattle.columns.proofs.CheckRules.{checking}
 use Rattle.ground.proofs.FirstLaws.{first_turn}
@@ -25,12 +24,11 @@ returns-then-place-to c =
     bad_row-at _ c.loop-j.j _ c.column_count-n.ensures _ _ c.first_place-from.ensures c.end_place-to.ensures _ c.bad_place-place.ensures c.loop-j-test.true c.loop-j.invariant.1 c.if-place-to.true
 
 pub loop-j-preserved : goal.loop-j-preserved
-loop-j-preserved c =
-    (
-      search checking,
-      first_turn _ c.loop-j-test.true c.loop-j.invariant.1
-          (column-good _ c.loop-j.j _ c.column_count-n.ensures _ _ c.first_place-from.ensures c.end_place-to.ensures _ c.bad_place-place.ensures c.if-place-to.false),
-    )
+loop-j-preserved c = (
+  search checking,
+  first_turn _ c.loop-j-test.true c.loop-j.invariant.1
+      (column-good _ c.loop-j.j _ c.column_count-n.ensures _ _ c.first_place-from.ensures c.end_place-to.ensures _ c.bad_place-place.ensures c.if-place-to.false),
+)
 
 pub returns : goal.returns
 returns c =

@@ -1,5 +1,4 @@
 -- `columns::check::count_rises` meets its contract. Assumes nothing.
-use Prim.Native.Nat.{◌-◌}
 use Rattle.columns.proofs.RiseLaws.{counting}
 use Rattle.columns.proofs.check.count_rises.Goals as goal
 

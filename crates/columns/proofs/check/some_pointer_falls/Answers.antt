@@ -1,5 +1,4 @@
 -- `columns::check::some_pointer_falls` meets its contract. Assumes nothing.
-use Prim.Native.Nat.{◌-◌}
 use Rattle.columns.proofs.CheckRules.{checking}
 use Rattle.columns.proofs.check.some_pointer_falls.Goals as goal
 

@@ -1,5 +1,5 @@
 -- `columns::check::walk_column` meets its contract: each turn's facts are those of `WalkedTo`. Assumes nothing.
-use Rattle.std.proofs.Common.{◌≡◌, ◌≤◌, ℕ, List, true, false, length, refl, rules, arith}
+use Rattle.std.proofs.Common.{◌≡◌, ◌≤◌, ℕ, List, true, false, length, refl, arith}
 use Rattle.ground.specs.First.{first}
 use Rattle.columns.specs.Columns.{row_bad}
 use Rattle.columns.specs.Reader.{stops_at, step_at, above_of}

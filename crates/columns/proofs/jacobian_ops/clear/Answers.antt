@@ -1,5 +1,4 @@
 -- `columns::jacobian_ops::clear` meets its contract. Assumes nothing.
-use Prim.Native.Nat.{◌-◌}
 use Rattle.columns.specs.Sums.{zero₊}
 use Rattle.columns.proofs.Rules.{rules}
 use Rattle.ground.proofs.ListLaws.{written_all}

@@ -1,5 +1,4 @@
 -- `columns::jacobian_ops::gather_columns` meets its contract. Assumes nothing.
-use Prim.Native.Nat.{◌-◌}
 use lib.Ieee.{nan}
 use mathlib.Core.Path.{refl}
 use Rattle.columns.proofs.Rules.{rules}

@@ -1,5 +1,4 @@
 -- `jacobian_ops::square_columns` writes one column's square a turn. The invariant: the list with the columns from j on written is the list of all squares. Assumes nothing.
-use Prim.Native.Nat.{◌-◌}
 use lib.Ieee.{nan}
 use mathlib.Core.Path.{refl}
 use Rattle.columns.proofs.Rules.{rules}

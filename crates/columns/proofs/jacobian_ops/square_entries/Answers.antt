@@ -1,5 +1,4 @@
 -- `columns::jacobian_ops::square_entries` meets its contract. Assumes nothing.
-use Prim.Native.Nat.{◌-◌}
 use Rattle.columns.proofs.Rules.{rules}
 use Rattle.columns.proofs.jacobian_ops.square_entries.Goals as goal
 

@@ -1,5 +1,4 @@
 -- `columns::jacobian_ops::sweep_columns` meets its contract. Assumes nothing.
-use Prim.Native.Nat.{◌-◌}
 use Rattle.columns.proofs.Rules.{rules}
 use Rattle.columns.proofs.jacobian_ops.sweep_columns.Goals as goal
 

@@ -1,5 +1,4 @@
 -- `columns::refusal::bad_pair` meets its contract. Assumes nothing.
-use Prim.Native.Nat.{◌-◌}
 use Rattle.columns.proofs.CheckRules.{checking}
 use Rattle.columns.proofs.refusal.bad_pair.Goals as goal
 

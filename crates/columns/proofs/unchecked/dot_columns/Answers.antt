@@ -1,5 +1,4 @@
 -- `columns::unchecked::dot_columns` meets its contract. Assumes nothing.
-use Prim.Native.Nat.{◌-◌}
 use Rattle.columns.proofs.MergeLaws.{merge_start, merge_fits, merge_less, merge_turn, merge_end_a, merge_end_b}
 use Rattle.columns.proofs.Rules.{rules}
 use Rattle.columns.proofs.unchecked.dot_columns.Goals as goal

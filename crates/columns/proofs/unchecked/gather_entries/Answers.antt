@@ -1,5 +1,4 @@
 -- `columns::unchecked::gather_entries` meets its contract. Assumes nothing.
-use Prim.Native.Nat.{◌-◌}
 use Rattle.columns.proofs.Rules.{rules}
 use Rattle.columns.proofs.unchecked.gather_entries.Goals as goal
 

@@ -1,5 +1,4 @@
 -- `columns::unchecked::land_all` meets its contract. Assumes nothing.
-use Prim.Native.Nat.{◌-◌}
 use Rattle.columns.proofs.Rules.{rules}
 use Rattle.columns.proofs.unchecked.land_all.Goals as goal
 
