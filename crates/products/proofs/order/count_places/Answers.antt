@@ -32,13 +32,12 @@ bounds-progress-c-in-loop-i c =
     next_in c.args.starts.now c.loop-i.progress _ c.has_next.result c.has_next.ensures (ap not c.if-not-has_next.false)
 
 pub loop-i-preserved : goal.loop-i-preserved
-loop-i-preserved c =
-    (
-      search ordering,
-      simp length-set c.loop-i.invariant.1,
-      counts-next (length c.args.progress.now) c.args.order.now c.loop-i.progress c.loop-i.i c.wide-c.result c.loop-i.invariant.2 c.wide-c.ensures.value (omega (arith, c.loop-i.invariant.1, next_in c.args.starts.now c.loop-i.progress c.wide-c.result c.has_next.result c.has_next.ensures (ap not c.if-not-has_next.false))),
-      first_turn _ c.loop-i-test.true c.loop-i.invariant.3 (place-told _ c.args.starts.now c.args.order.now c.loop-i.progress c.loop-i.i _ c.has_next.result _ c.loop-i.invariant.2 c.wide-c.ensures.value c.has_next.ensures (ap not c.if-not-has_next.false)),
-    )
+loop-i-preserved c = (
+  search ordering,
+  simp length-set c.loop-i.invariant.1,
+  counts-next (length c.args.progress.now) c.args.order.now c.loop-i.progress c.loop-i.i c.wide-c.result c.loop-i.invariant.2 c.wide-c.ensures.value (omega (arith, c.loop-i.invariant.1, next_in c.args.starts.now c.loop-i.progress c.wide-c.result c.has_next.result c.has_next.ensures (ap not c.if-not-has_next.false))),
+  first_turn _ c.loop-i-test.true c.loop-i.invariant.3 (place-told _ c.args.starts.now c.args.order.now c.loop-i.progress c.loop-i.i _ c.has_next.result _ c.loop-i.invariant.2 c.wide-c.ensures.value c.has_next.ensures (ap not c.if-not-has_next.false)),
+)
 
 pub returns : goal.returns
 returns c =

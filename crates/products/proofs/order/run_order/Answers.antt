@@ -20,13 +20,12 @@ overflow_step-i c =
     omega (arith, c.loop-i-test.true, c.well_formed)
 
 pub loop-i-preserved : goal.loop-i-preserved
-loop-i-preserved c =
-    (
-      omega arith,
-      search stepping,
-      run-counts c.args.rows.now (length c.args.values.now) (length c.args.v.now) (length c.args.y.now) (length c.loop-i.y) (record { starts = c.args.starts.now; lo = c.args.lo.now; hi = c.args.hi.now; local = c.args.local.now }) c.args.progress.now c.loop-i.progress c.args.order.now c.loop-i.i c.wide.result c.requires c.loop-i-test.true c.loop-i.invariant.1 c.loop-i.invariant.2 c.wide.ensures.value c.args.sign c.args.values.now c.args.v.now c.loop-i.y _ _ c.do_step.ensures,
-      run_turn c.args.rows.now (length c.args.values.now) (length c.args.v.now) (length c.args.y.now) (length c.loop-i.y) (record { starts = c.args.starts.now; lo = c.args.lo.now; hi = c.args.hi.now; local = c.args.local.now }) c.args.progress.now c.loop-i.progress c.args.order.now c.loop-i.i c.wide.result c.requires c.loop-i-test.true c.loop-i.invariant.1 c.loop-i.invariant.2 c.wide.ensures.value c.args.sign c.args.values.now c.args.v.now c.loop-i.y _ _ c.do_step.ensures _ c.loop-i.invariant.3,
-    )
+loop-i-preserved c = (
+  omega arith,
+  search stepping,
+  run-counts c.args.rows.now (length c.args.values.now) (length c.args.v.now) (length c.args.y.now) (length c.loop-i.y) (record { starts = c.args.starts.now; lo = c.args.lo.now; hi = c.args.hi.now; local = c.args.local.now }) c.args.progress.now c.loop-i.progress c.args.order.now c.loop-i.i c.wide.result c.requires c.loop-i-test.true c.loop-i.invariant.1 c.loop-i.invariant.2 c.wide.ensures.value c.args.sign c.args.values.now c.args.v.now c.loop-i.y _ _ c.do_step.ensures,
+  run_turn c.args.rows.now (length c.args.values.now) (length c.args.v.now) (length c.args.y.now) (length c.loop-i.y) (record { starts = c.args.starts.now; lo = c.args.lo.now; hi = c.args.hi.now; local = c.args.local.now }) c.args.progress.now c.loop-i.progress c.args.order.now c.loop-i.i c.wide.result c.requires c.loop-i-test.true c.loop-i.invariant.1 c.loop-i.invariant.2 c.wide.ensures.value c.args.sign c.args.values.now c.args.v.now c.loop-i.y _ _ c.do_step.ensures _ c.loop-i.invariant.3,
+)
 
 pub shape_of-progress : goal.shape_of-progress
 shape_of-progress c =

@@ -34,13 +34,12 @@ pub pass_few-k-requires-in-loop-k : goal.pass_few-k-requires-in-loop-k
 pass_few-k-requires-in-loop-k c = search planning
 
 pub loop-k-preserved : goal.loop-k-preserved
-loop-k-preserved c =
-    (
-      few_later c.args.rows.now c.args.from (c.args.from + c.args.size) c.args.lo.now c.args.hi.now c.args.first c.loop-k.k _ c.args.last c.loop-k.invariant.0 c.pass_few-k-in-loop-k.ensures,
-      few_passed c.args.rows.now c.args.from (c.args.from + c.args.size) c.args.lo.now c.args.hi.now (c.loop-k.k + 1) _ c.args.last c.pass_few-k-in-loop-k.ensures _
-          (some_goes _ c.loop-k-test.true c.loop-k.invariant.1
-          (rows_told c.args.rows.now c.args.from (c.args.from + c.args.size) c.args.lo.now c.args.hi.now c.loop-k.k _ _ c.rows_out.result _ c.wide-a.ensures.value c.wide-b.ensures.value c.rows_out.ensures c.if-rows_out.false)),
-    )
+loop-k-preserved c = (
+  few_later c.args.rows.now c.args.from (c.args.from + c.args.size) c.args.lo.now c.args.hi.now c.args.first c.loop-k.k _ c.args.last c.loop-k.invariant.0 c.pass_few-k-in-loop-k.ensures,
+  few_passed c.args.rows.now c.args.from (c.args.from + c.args.size) c.args.lo.now c.args.hi.now (c.loop-k.k + 1) _ c.args.last c.pass_few-k-in-loop-k.ensures _
+      (some_goes _ c.loop-k-test.true c.loop-k.invariant.1
+      (rows_told c.args.rows.now c.args.from (c.args.from + c.args.size) c.args.lo.now c.args.hi.now c.loop-k.k _ _ c.rows_out.result _ c.wide-a.ensures.value c.wide-b.ensures.value c.rows_out.ensures c.if-rows_out.false)),
+)
 
 pub returns : goal.returns
 returns c = search planning
