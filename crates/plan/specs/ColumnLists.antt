@@ -1,7 +1,7 @@
 -- The code's own. The lists of a side's columns and of their blocks, as src/lists.rt writes them. Assumes nothing.
-use Rattle.std.specs.Prelude.{◌≡◌, List, ◌++◌, ℕ, ◌+◌, ◌≤◌, ◌<◌, length, get_or, set, drop}
+use Rattle.std.specs.Prelude.{◌≡◌, List, ◌++◌, ℕ, ◌≤◌, ◌<◌, get_or, set, drop}
 use Rattle.ground.specs.Range.{range}
-use Rattle.blocks.specs.Sides.{block_count, dof_of, cols, offset_of, side_dof, HasAt}
+use Rattle.blocks.specs.Sides.{block_count, cols, offset_of, side_dof, HasAt}
 use Rattle.plan.specs.Plan.{column_blocks}
 
 -- places lo up to hi of a list as xs has them

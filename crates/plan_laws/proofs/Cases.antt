@@ -1,8 +1,7 @@
 -- Worked cases of spans and chunk lengths, computed from the definitions: no rows at all, and a chunk as long as the rows, whose spans stand by local
 -- number and not by lo. The lists are lent with more places than they need, all of which hold 7. Assumes nothing.
 use mathlib.Core.Path.{◌≡◌, refl}
-use mathlib.Core.List.{List, [], ◌∷◌, map}
-use Prim.Native.Nat.{ℕ}
+use mathlib.Core.List.{[], ◌∷◌, map}
 use lib.ListN.{replicate}
 use Rattle.ground.specs.First.{first_n, first}
 use Rattle.ground.specs.Gather.{gather_n, gather}

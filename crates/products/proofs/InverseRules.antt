@@ -1,6 +1,6 @@
 -- What the code of src/side_sums.rt shows of the block inverses times a vector: a block's rows put one after the other, block after block.
 -- Assumes nothing.
-use Rattle.std.proofs.Common.{◌≡◌, ℕ, zero, suc, ◌+◌, ◌-◌, ◌*◌, ◌<◌, ◌≤◌, List, length, get_or, set, sym, ap, ◌∙◌, add-zero, le_antisymm, add-one, arith, length-append}
+use Rattle.std.proofs.Common.{◌≡◌, ℕ, zero, suc, ◌+◌, ◌*◌, ◌<◌, ◌≤◌, List, length, get_or, set, sym, ap, ◌∙◌, add-zero, le_antisymm, add-one, arith, length-append}
 use lib.Ieee.{Float, nan, binary64, add, mul}
 use Rattle.ground.specs.Gather.{gather}
 use Rattle.ground.specs.Fold.{folded}

@@ -26,20 +26,7 @@ use Rattle.blocks.proofs.MapLaws.{map_on, map-place, map_below, left-marked, kee
 use Rattle.blocks.proofs.ValueCalls.{block_inside}
 use Rattle.products.specs.SideSums.{side_terms, side_gather}
 use Rattle.products.specs.SideFits.{SideFits, DofsFit, InversesFit}
-use Rattle.products.specs.Couplings.{
-  lent_told,
-  Made,
-  made,
-  inverse_lengths,
-  apply_eliminated_inverse,
-  coupling_lengths,
-  coupled_rows,
-  Coupled,
-  coupling,
-  update_at,
-  update_lengths,
-  combine_updates,
-}
+use Rattle.products.specs.Couplings.{lent_told, made, inverse_lengths, coupling_lengths, coupled_rows, coupling, update_at, update_lengths}
 use Rattle.products.specs.LentCalls.{check_lengths, lent, Pair, coupled, CouplingFits, update_by, UpdateFits, UpdatesFit}
 
 -- ---- the lengths alone: a is what `wrong_length` answered

@@ -19,30 +19,7 @@ use Rattle.columns.specs.JacobianOps.{landings}
 use Rattle.columns.specs.Unchecked.{EntriesFit}
 use Rattle.plan.specs.Spans.{Spread}
 use Rattle.products.specs.Orders.{span_count, span_terms, served, has_next, place_bad, chunk_left, bad_order}
-use Rattle.products.specs.OrderWalk.{
-  entries_only,
-  spans_only,
-  starts_only,
-  left_at,
-  Counted,
-  counts,
-  counted_to,
-  tested_order,
-  Work,
-  work,
-  stepped,
-  place_terms,
-  ran_to,
-  ran_order,
-  SpanFits,
-  SpansFit,
-  StartsFit,
-  LeftFits,
-  CountFits,
-  PlanFits,
-  StepFits,
-  RunFits,
-}
+use Rattle.products.specs.OrderWalk.{entries_only, spans_only, starts_only, left_at, Counted, counts, counted_to, tested_order, Work, work, stepped, place_terms, ran_to, ran_order, SpanFits, SpansFit, StartsFit, LeftFits, CountFits, StepFits, RunFits}
 use Rattle.ground.proofs.FirstLaws.{some_goes, some_stops, some-ends}
 
 -- ---- spans left

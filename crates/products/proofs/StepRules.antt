@@ -20,28 +20,7 @@ use Rattle.columns.proofs.RefusalLaws.{pass_refused, pass_done, passed, or_refus
 use Rattle.blocks.specs.Sides.{side_of}
 use Rattle.blocks.specs.Claims.{late_blocks, marked, Mapped}
 use Rattle.plan.specs.Spans.{chunk_count_of, Spread}
-use Rattle.products.specs.Orders.{
-  span_count,
-  span_terms,
-  served,
-  has_next,
-  place_bad,
-  chunk_left,
-  bad_plan,
-  bad_order,
-  order_terms,
-  sign_of,
-  early_chunked,
-  sweep_lengths,
-  sweep_told,
-  Swept,
-  step_order,
-  step_told,
-  step_of,
-  start_rows,
-  sweep_told₁₄,
-  sweep_of,
-}
+use Rattle.products.specs.Orders.{span_count, span_terms, served, has_next, place_bad, chunk_left, bad_plan, bad_order, order_terms, sign_of, early_chunked, sweep_lengths, sweep_told, step_order, step_of, start_rows, sweep_of}
 use Rattle.products.specs.OrderWalk.{entries_only, starts_only, counts, Tested, tested_order, Work, work, stepped, place_terms, ran_to, ran_order, StartsFit, PlanFits, StepFits, RunFits}
 use Rattle.products.specs.SweepCheck.{chunked_left, checks_told, check_sweep}
 use Rattle.products.proofs.OrderRules.{served_named, served-other, next-there}

@@ -1,5 +1,5 @@
 -- To be believed. The reduced operator over a plan as it is lent: out = Fᵀ(F·v − E·(inverses·Eᵀ·F·v)) + d·v. Assumes nothing.
-use Rattle.std.specs.Prelude.{ℕ, ◌+◌, true, false, cond, List, [], ◌∷◌, ◌++◌, length, replicate, ◌==◌, nat_lt, slice_index_or, Float}
+use Rattle.std.specs.Prelude.{ℕ, true, false, cond, List, [], ◌∷◌, ◌++◌, length, replicate, ◌==◌, nat_lt, slice_index_or, Float}
 use Rattle.std.specs.Float.{nan}
 use Rattle.ground.specs.Gather.{list_of}
 use Rattle.columns.specs.declared.unchecked.Sign.TheVariants.{Plus, Minus}

@@ -1,5 +1,5 @@
 -- To be believed. The undivided sweep of a side, its gathers, and the block inverses times a vector. Assumes nothing.
-use Rattle.std.specs.Prelude.{ℕ, ◌+◌, ◌*◌, List, [], ◌∷◌, slice_index, slice_index_or, Float}
+use Rattle.std.specs.Prelude.{ℕ, ◌+◌, List, [], ◌∷◌, slice_index, slice_index_or, Float}
 use Rattle.std.specs.Float.{nan}
 use Rattle.ground.specs.Gather.{gather, list_of}
 use Rattle.columns.specs.Columns.{Columns}

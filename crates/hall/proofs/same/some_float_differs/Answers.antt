@@ -1,5 +1,4 @@
 -- `hall::same::some_float_differs` meets its contract. Assumes nothing.
-use Prim.Native.Nat.{◌-◌}
 use Rattle.hall.proofs.SameRules.{comparing}
 use Rattle.hall.proofs.same.some_float_differs.Goals as goal
 

@@ -1,6 +1,5 @@
 -- `lists::list_block_columns` meets its contract. Assumes nothing.
 use mathlib.Core.Path.{refl}
-use Prim.Native.Nat.{◌-◌}
 use native.Mathlib.Omega.{arith}
 use Rattle.ground.proofs.RangeLaws.{turn}
 use Rattle.plan.proofs.ColumnRules.{place-few, column-few, column-put, laying}

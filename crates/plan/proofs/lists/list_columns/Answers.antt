@@ -1,6 +1,5 @@
 -- `lists::list_columns` meets its contract. Assumes nothing.
 use mathlib.Core.Path.{refl}
-use Prim.Native.Nat.{◌-◌}
 use native.Mathlib.Omega.{arith}
 use Rattle.plan.proofs.ColumnRules.{place-few, block-fits, laying}
 use Rattle.plan.proofs.lists.list_columns.Goals as goal

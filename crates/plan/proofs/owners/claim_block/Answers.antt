@@ -1,6 +1,5 @@
 -- `owners::claim_block` meets its contract. Assumes nothing.
 use mathlib.Core.Path.{refl}
-use Prim.Native.Nat.{◌-◌}
 use Rattle.plan.proofs.OwnerRules.{block_enters, claims_go}
 use Rattle.plan.proofs.OwnerRules.{claiming}
 use Rattle.plan.proofs.owners.claim_block.Goals as goal

@@ -1,5 +1,4 @@
 -- `owners::claim_blocks` meets its contract. Assumes nothing.
-use Prim.Native.Nat.{◌-◌}
 use Rattle.plan.proofs.OwnerRules.{claiming}
 use Rattle.plan.proofs.owners.claim_blocks.Goals as goal
 

@@ -1,5 +1,4 @@
 -- `owners::claim_entries` meets its contract. Assumes nothing.
-use Prim.Native.Nat.{◌-◌}
 use Rattle.plan.proofs.OwnerRules.{claiming}
 use Rattle.plan.proofs.owners.claim_entries.Goals as goal
 

@@ -2,7 +2,6 @@
 use mathlib.Core.Path.{refl, ◌∙◌}
 use Rattle.columns.specs.Columns.{columns_of}
 use Rattle.columns.proofs.CallLaws.{told-refused}
-use Rattle.blocks.specs.Walk.{walk_blocks}
 use Rattle.plan.specs.Plan.{buffers}
 use Rattle.plan.proofs.PlanCalls.{early_room, map-room, plan_ready, room-is, kept-columns, elims-columns, elims-blocks, plan-owners, plan-lists, plan-visible, visible-left, kept_spans, elims-spans, plan_parts, plan-room, plan_walk, mapped_is, plan-connected, owners-is, plan_all, listed-count, listed-list, numbered_list, span_count_lem, span_lists, rows-listed, plan_of_lem, parts_fact, room_fact, walk_fact, walk_refused_fact}
 use Rattle.plan.proofs.structure.plan.Goals as goal

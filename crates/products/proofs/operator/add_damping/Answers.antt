@@ -1,5 +1,4 @@
 -- `operator::add_damping` meets its contract. Assumes nothing.
-use Rattle.std.proofs.Common.{◌-◌}
 use Rattle.products.proofs.OperatorRules.{operating}
 use Rattle.products.proofs.operator.add_damping.Goals as goal
 

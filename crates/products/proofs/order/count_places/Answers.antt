@@ -1,5 +1,5 @@
 -- `order::count_places` meets its contract. Assumes nothing.
-use Rattle.std.proofs.Common.{ℕ, ◌+◌, ◌-◌, length, ap, ◌∙◌, le_antisymm, arith, length-set}
+use Rattle.std.proofs.Common.{ℕ, ◌+◌, length, ap, ◌∙◌, le_antisymm, arith, length-set}
 use Rattle.products.specs.OrderWalk.{counts}
 use Rattle.products.proofs.OrderRules.{counted, place-told, next_in, next_more, counts-next, ordering}
 use Rattle.ground.proofs.FirstLaws.{first_stop, first_turn, first_end}

@@ -1,6 +1,6 @@
 -- `order::run_order` does one step a turn, for the chunk at the next place of the order. The invariant: the progress counts the places before i,
 -- and the rows with the terms of the places from i on swept into them are the rows with all swept in. Assumes nothing.
-use Rattle.std.proofs.Common.{◌-◌, length, ap, ◌∙◌, arith}
+use Rattle.std.proofs.Common.{length, ap, ◌∙◌, arith}
 use Rattle.products.proofs.OrderRules.{run-counts, run_turn, stepping}
 use Rattle.ground.proofs.GatherLaws.{length-list_of}
 use Rattle.products.specs.Orders.{served}

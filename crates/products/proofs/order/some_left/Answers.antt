@@ -1,5 +1,4 @@
 -- `order::some_left` meets its contract. Assumes nothing.
-use Rattle.std.proofs.Common.{◌-◌}
 use Rattle.products.proofs.OrderRules.{ordering}
 use Rattle.products.proofs.order.some_left.Goals as goal
 

@@ -1,5 +1,4 @@
 -- `plan_check::find_column` meets its contract. Assumes nothing.
-use Rattle.std.proofs.Common.{◌-◌}
 use Rattle.products.proofs.PlanRules.{planning}
 use Rattle.products.proofs.plan_check.find_column.Goals as goal
 

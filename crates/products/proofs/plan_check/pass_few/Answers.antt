@@ -1,5 +1,5 @@
 -- `plan_check::pass_few` meets its contract. Assumes nothing.
-use Rattle.std.proofs.Common.{◌+◌, ◌-◌, true}
+use Rattle.std.proofs.Common.{◌+◌, true}
 use Rattle.ground.proofs.FirstLaws.{first_stop}
 use Rattle.products.proofs.PlanRules.{stops_told, planning}
 use Rattle.products.proofs.plan_check.pass_few.Goals as goal

@@ -1,5 +1,4 @@
 -- `plan_check::some_chunk_bad` meets its contract. Assumes nothing.
-use Rattle.std.proofs.Common.{◌-◌}
 use Rattle.products.proofs.PlanRules.{planning}
 use Rattle.products.proofs.plan_check.some_chunk_bad.Goals as goal
 

@@ -1,5 +1,5 @@
 -- `plan_check::some_rows_out` meets its contract. Assumes nothing.
-use Rattle.std.proofs.Common.{◌+◌, ◌-◌}
+use Rattle.std.proofs.Common.{◌+◌}
 use Rattle.products.proofs.PlanRules.{rows_told, few_later, few_passed, planning}
 use Rattle.ground.proofs.FirstLaws.{some_goes, some_stops}
 use Rattle.products.proofs.plan_check.some_rows_out.Goals as goal

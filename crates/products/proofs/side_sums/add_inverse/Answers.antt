@@ -1,5 +1,5 @@
 -- `products::side_sums::add_inverse` meets its contract. Assumes nothing.
-use Rattle.std.proofs.Common.{◌-◌, arith}
+use Rattle.std.proofs.Common.{arith}
 use Rattle.products.proofs.InverseRules.{term-place, inverting}
 use Rattle.products.proofs.side_sums.add_inverse.Goals as goal
 

@@ -1,6 +1,6 @@
 -- `side_sums::gather_block` gathers the columns of one block, one a turn. The invariant: the result with the places from l on written is the result with all of the block's written.
 -- The block's columns exist, so no sum of places wraps. Assumes nothing.
-use Rattle.std.proofs.Common.{◌-◌, arith}
+use Rattle.std.proofs.Common.{arith}
 use Rattle.ground.proofs.RangeLaws.{done}
 use Rattle.products.proofs.SideRules.{block-gathered, block_in, gather_turn, siding}
 use Rattle.products.proofs.side_sums.gather_block.Goals as goal

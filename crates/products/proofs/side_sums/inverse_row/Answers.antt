@@ -1,5 +1,4 @@
 -- `products::side_sums::inverse_row` meets its contract. Assumes nothing.
-use Rattle.std.proofs.Common.{◌-◌}
 use Rattle.products.proofs.InverseRules.{inverting}
 use Rattle.products.proofs.side_sums.inverse_row.Goals as goal
 

@@ -1,6 +1,5 @@
 -- `products::side_sums::inverse_times` meets its contract. Assumes nothing.
-use Rattle.std.proofs.Common.{◌-◌, refl, arith}
-use Rattle.products.specs.SideSums.{inverse_block}
+use Rattle.std.proofs.Common.{refl, arith}
 use Rattle.plan.proofs.ColumnRules.{next_place}
 use Rattle.products.proofs.InverseRules.{rows_fit, inverses_turn, inverting}
 use Rattle.blocks.proofs.ValueRules.{squares_after}

@@ -1,5 +1,5 @@
 -- `products::side_sums::side_dof` meets its contract. Assumes nothing.
-use Rattle.std.proofs.Common.{◌-◌, arith}
+use Rattle.std.proofs.Common.{arith}
 use Rattle.products.proofs.SideRules.{dofs_in, siding}
 use Rattle.products.proofs.side_sums.side_dof.Goals as goal
 

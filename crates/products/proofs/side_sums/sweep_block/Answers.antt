@@ -1,6 +1,6 @@
 -- `side_sums::sweep_block` sweeps the columns of one block, one a turn. The invariant: the rows with the terms of the columns from l on landed in them are the rows with all
 -- of the block's landed. The block's columns exist, so no sum of places wraps. Assumes nothing.
-use Rattle.std.proofs.Common.{◌-◌, arith}
+use Rattle.std.proofs.Common.{arith}
 use Rattle.ground.proofs.FoldLaws.{fold_done}
 use Rattle.products.proofs.SideRules.{block-swept, block_in, sweep_turn, siding}
 use Rattle.products.proofs.side_sums.sweep_block.Goals as goal

@@ -1,5 +1,5 @@
 -- `products::side_sums::sweep_side` meets its contract. Assumes nothing.
-use Rattle.std.proofs.Common.{◌-◌, arith}
+use Rattle.std.proofs.Common.{arith}
 use Rattle.plan.proofs.ColumnRules.{next_place}
 use Rattle.products.proofs.SideRules.{blocks-swept, places_in, siding}
 use Rattle.products.proofs.side_sums.sweep_side.Goals as goal

@@ -1,5 +1,4 @@
 -- `spans_sweep::sweep_plan` meets its contract. Assumes nothing.
-use Rattle.std.proofs.Common.{◌-◌}
 use Rattle.products.proofs.OrderRules.{stepping}
 use Rattle.products.proofs.spans_sweep.sweep_plan.Goals as goal
 

@@ -1,5 +1,5 @@
 -- `products::update::put_updates` meets its contract. Assumes nothing.
-use Rattle.std.proofs.Common.{◌-◌, refl}
+use Rattle.std.proofs.Common.{refl}
 use lib.Ieee.{nan}
 use Rattle.ground.proofs.ListLaws.{written-list}
 use Rattle.products.proofs.LentRules.{lending}
