@@ -1,5 +1,6 @@
 -- To be believed. Refusals 1, 2, 4 and 6 to 9, over columns and both sides, and the column map. Assumes nothing.
-use Rattle.std.specs.Prelude.{◌≡◌, Bool, not, ◌||◌, cond, List, [], ◌∷◌, ◌++◌, ℕ, ◌%◌, ◌≤◌, ◌<◌, eqb, leb, ltb, length, get_or, take, drop, replicate}
+use Rattle.std.specs.Prelude.{◌≡◌, Bool, not, ◌||◌, cond, List, [], ◌∷◌, ◌++◌, ℕ, ◌%◌, ◌≤◌, ◌<◌, eqb, leb, ltb}
+use Rattle.std.specs.Prelude.{length, get_or, take, drop, replicate}
 use Rattle.ground.specs.First.{first}
 use Rattle.ground.specs.Gather.{gather, list_of}
 use Rattle.columns.specs.Refusals.{Told, tell, done, on_pass, or_else, sooner}

@@ -1,6 +1,7 @@
 -- The code's own. The walk of 7 to 9 as src/check.rt makes it, on the map itself: a column is free where the map holds the mark. proofs/WalkLaws.antt
 -- shows that it tells and leaves what Claims.antt says. Assumes nothing.
-use Rattle.std.specs.Prelude.{◌≡◌, Bool, cond, List, [], ◌∷◌, ◌++◌, ℕ, suc, ◌+◌, ◌≤◌, ◌<◌, eqb, leb, length, get_or, take, drop, set, replicate}
+use Rattle.std.specs.Prelude.{◌≡◌, Bool, cond, List, [], ◌∷◌, ◌++◌, ℕ, suc, ◌+◌, ◌≤◌, ◌<◌, eqb, leb, length, get_or}
+use Rattle.std.specs.Prelude.{take, drop, set, replicate}
 use Rattle.ground.specs.Fold.{folded}
 use Rattle.ground.specs.Gather.{list_of}
 use Rattle.columns.specs.Refusals.{Told, tell, done, refused, Passes, on_pass}

@@ -5,7 +5,8 @@ ghost use Rattle.std.specs.Prelude.{◌≡◌, ◌≤◌, length};
 ghost use Rattle.ground.specs.First.{first};
 ghost use Rattle.columns.specs.Refusals.{told};
 ghost use Rattle.columns.specs.Columns.{columns_of};
-ghost use Rattle.blocks.specs.Claims.{too_many, is_odd, lists_told, empty_side, parts_told, early_told, block_claims, side_claims, claims, marked, check_blocks};
+ghost use Rattle.blocks.specs.Claims.{too_many, is_odd, lists_told, empty_side, parts_told, early_told, block_claims, side_claims, claims, marked};
+ghost use Rattle.blocks.specs.Claims.{check_blocks};
 ghost use Rattle.blocks.specs.Walk.{is_free_of, through, walk_of, walked, walk_blocks, Room, BlockWalks, Roomy, Tried};
 
 use crate::owner::Owner;

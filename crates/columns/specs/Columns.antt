@@ -1,5 +1,6 @@
 -- To be believed. Columns, their places, and refusals 1 to 3. Assumes nothing.
-use Rattle.std.specs.Prelude.{◌≡◌, Bool, not, ◌&&◌, ◌||◌, cond, List, [], ◌∷◌, ℕ, ◌+◌, ◌-◌, ◌≤◌, ◌<◌, ltb, leb, eqb, Float, length, get_or}
+use Rattle.std.specs.Prelude.{◌≡◌, Bool, not, ◌&&◌, ◌||◌, cond, List, [], ◌∷◌, ℕ, ◌+◌, ◌-◌, ◌≤◌, ◌<◌, ltb}
+use Rattle.std.specs.Prelude.{leb, eqb, Float, length, get_or}
 use Rattle.ground.specs.First.{first, some}
 use Rattle.columns.specs.Refusals.{Told, tell, done}
 

@@ -19,7 +19,8 @@ bad_pair exact pairs = first (pair_bad exact pairs) 0 (length pairs / 2)
 
 -- refusal n with its place and its need
 unfoldable pub pairs_told : ℕ → Bool → List ℕ → Told
-pairs_told n exact pairs = cond (ltb (bad_pair exact pairs) (length pairs / 2)) (tell n (bad_pair exact pairs ∷ need_of pairs (bad_pair exact pairs) ∷ [])) done
+pairs_told n exact pairs =
+    cond (ltb (bad_pair exact pairs) (length pairs / 2)) (tell n (bad_pair exact pairs ∷ need_of pairs (bad_pair exact pairs) ∷ [])) done
 
 -- 6: a buffer shorter than its need; longer is fine
 abbrev pub no_room_of : List ℕ → Told

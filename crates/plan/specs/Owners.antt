@@ -1,5 +1,6 @@
 -- To be believed. The owner of a row, and refusal 10. Assumes nothing.
-use Rattle.std.specs.Prelude.{◌≡◌, Bool, true, not, ◌&&◌, cond, List, [], ◌∷◌, ◌++◌, ℕ, ◌+◌, ◌<◌, eqb, ltb, length, get_or, replicate, drop}
+use Rattle.std.specs.Prelude.{◌≡◌, Bool, true, not, ◌&&◌, cond, List, [], ◌∷◌, ◌++◌, ℕ, ◌+◌, ◌<◌, eqb, ltb, length}
+use Rattle.std.specs.Prelude.{get_or, replicate, drop}
 use Rattle.ground.specs.First.{first, some}
 use Rattle.ground.specs.Gather.{gather, list_of}
 use Rattle.columns.specs.Refusals.{Told, tell, done, on_pass}
@@ -60,7 +61,8 @@ first_clash es = first (clashes es) 0 (length es)
 -- that entry's block now, and the earlier one
 unfoldable pub connected_told : List Entry → Told
 connected_told es =
-    cond (ltb (first_clash es) (length es)) (tell 10 ((entry_in_of es (first_clash es)).block ∷ (entry_in_of es (holder es (first_clash es))).block ∷ [])) done
+    cond (ltb (first_clash es) (length es))
+    (tell 10 ((entry_in_of es (first_clash es)).block ∷ (entry_in_of es (holder es (first_clash es))).block ∷ [])) done
 
 -- what it comes to: some row has entries of two different eliminated blocks
 pub record Connects (m : Columns) (elims : List ℕ) : Type 0 where

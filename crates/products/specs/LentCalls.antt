@@ -36,7 +36,8 @@ pub record CouplingFits (m : Columns) (from to : List ℕ) (n k : ℕ) : Type 0 
 
 -- the update's entry at column c by the map: the kept update's where the map is below its length, else the eliminated one's
 unfoldable pub update_by : List ℕ → List Float → List Float → ℕ → Float
-update_by map xk xe c = cond (nat_lt (slice_index map c) (length xk)) (slice_index_or xk (slice_index map c) nan) (slice_index_or xe (slice_index map c - length xk) nan)
+update_by map xk xe c =
+    cond (nat_lt (slice_index map c) (length xk)) (slice_index_or xk (slice_index map c) nan) (slice_index_or xe (slice_index map c - length xk) nan)
 
 -- the map has a place for column c, and an update has the entry that it names
 pub record UpdateFits (map : List ℕ) (xk xe c : ℕ) : Type 0 where

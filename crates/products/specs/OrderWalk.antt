@@ -1,5 +1,6 @@
 -- The code's own. Steps and work orders as src/order.rt and src/spans_sweep.rt do them, and what their functions ask. Assumes nothing.
-use Rattle.std.specs.Prelude.{◌≡◌, ℕ, ◌+◌, ◌<◌, ◌≤◌, Bool, true, List, [], length, replicate, nat_lt, slice_index, slice_index_or, slice_set, Float}
+use Rattle.std.specs.Prelude.{◌≡◌, ℕ, ◌+◌, ◌<◌, ◌≤◌, Bool, true, List, [], length, replicate, nat_lt, slice_index}
+use Rattle.std.specs.Prelude.{slice_index_or, slice_set, Float}
 use Rattle.ground.specs.First.{first, None}
 use Rattle.ground.specs.Gather.{gather, list_of}
 use Rattle.columns.specs.declared.unchecked.Sign.{Sign}

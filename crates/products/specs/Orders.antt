@@ -1,5 +1,6 @@
 -- To be believed. Plans as they are lent, work orders, steps and sweeps: refusals 5, 13 and 14. Assumes nothing.
-use Rattle.std.specs.Prelude.{ℕ, zero, suc, ◌+◌, ◌-◌, Bool, cond, not, ◌&&◌, ◌||◌, List, [], ◌∷◌, length, get_or, replicate, ◌==◌, nat_le, nat_lt, slice_index, slice_index_or, slice_set, Float}
+use Rattle.std.specs.Prelude.{ℕ, zero, suc, ◌+◌, ◌-◌, Bool, cond, not, ◌&&◌, ◌||◌, List, [], ◌∷◌, length, get_or, replicate}
+use Rattle.std.specs.Prelude.{◌==◌, nat_le, nat_lt, slice_index, slice_index_or, slice_set, Float}
 use Rattle.std.specs.Float.{nan}
 use Rattle.ground.specs.First.{first, some}
 use Rattle.ground.specs.Gather.{gather, list_of}

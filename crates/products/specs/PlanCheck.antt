@@ -1,5 +1,6 @@
 -- The code's own. Refusal 13 as src/plan_check.rt finds it, and what its functions ask. Assumes nothing.
-use Rattle.std.specs.Prelude.{◌≡◌, ℕ, ◌+◌, ◌-◌, ◌*◌, ◌<◌, ◌≤◌, Bool, cond, ◌&&◌, ◌||◌, List, [], length, nat_le, nat_lt, slice_index}
+use Rattle.std.specs.Prelude.{◌≡◌, ℕ, ◌+◌, ◌-◌, ◌*◌, ◌<◌, ◌≤◌, Bool, cond, ◌&&◌, ◌||◌, List, [], length, nat_le}
+use Rattle.std.specs.Prelude.{nat_lt, slice_index}
 use Rattle.ground.specs.First.{some}
 use Rattle.columns.specs.Columns.{Columns, columns_of, first_in, end_in}
 use Rattle.columns.specs.Unchecked.{RunThere}

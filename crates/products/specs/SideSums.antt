@@ -22,7 +22,8 @@ side_gather start m side y = list_of (λ l. sum_from start (gather_terms m y (co
 
 -- row r of block b's inverse times the block's entries of t, from +0.0: one term for each of the block's columns
 unfoldable pub inverse_term : List ℕ → List Float → List Float → ℕ → ℕ → ℕ → List Term
-inverse_term elims inverses t b r c = term (slice_index_or inverses (squares_before elims b + entry_place elims b r c) nan) (slice_index_or t (offset_of elims b + c) nan) ∷ []
+inverse_term elims inverses t b r c =
+    term (slice_index_or inverses (squares_before elims b + entry_place elims b r c) nan) (slice_index_or t (offset_of elims b + c) nan) ∷ []
 
 unfoldable pub inverse_entry : List ℕ → List Float → List Float → ℕ → ℕ → Float
 inverse_entry elims inverses t b r = sum_from zero₊ (gather (inverse_term elims inverses t b r) 0 (dof_of elims b))
