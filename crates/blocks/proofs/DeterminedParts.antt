@@ -29,8 +29,8 @@ use Rattle.blocks.proofs.damping.Damping.diagonal_term.Reads as diagonal
 use Rattle.blocks.proofs.partition.slot.Reads as slots
 use Rattle.blocks.proofs.partition.kept_local.Reads as kept
 use Rattle.blocks.proofs.partition.eliminated_local.Reads as eliminated
-use Rattle.blocks.proofs.partition.kept_offset.Reads as keptOffset
-use Rattle.blocks.proofs.partition.eliminated_offset.Reads as eliminatedOffset
+use Rattle.blocks.proofs.partition.kept_offset.Reads as kept_offset
+use Rattle.blocks.proofs.partition.eliminated_offset.Reads as eliminated_offset
 use Rattle.blocks.proofs.eliminated_blocks.block_place.Reads as places
 use Rattle.blocks.proofs.eliminated_blocks.block.Reads as blocks
 use Rattle.blocks.proofs.eliminated_blocks.dof.Reads as dofs
@@ -62,10 +62,10 @@ kept-local κs a s t p q = named _ p q
 pub eliminated-local : (κs : Lfts 1) (a : _) (s t : _) (p q : Within) → eliminated.Post κs a p s → eliminated.Post κs a q t → p ≡ q
 eliminated-local κs a s t p q = named _ p q
 
-pub kept-offset : (κs : Lfts 1) (a : _) (s t : _) (p q : Number) → keptOffset.Post κs a p s → keptOffset.Post κs a q t → p ≡ q
+pub kept-offset : (κs : Lfts 1) (a : _) (s t : _) (p q : Number) → kept_offset.Post κs a p s → kept_offset.Post κs a q t → p ≡ q
 kept-offset κs a s t p q = named _ p q
 
-pub eliminated-offset : (κs : Lfts 1) (a : _) (s t : _) (p q : Number) → eliminatedOffset.Post κs a p s → eliminatedOffset.Post κs a q t → p ≡ q
+pub eliminated-offset : (κs : Lfts 1) (a : _) (s t : _) (p q : Number) → eliminated_offset.Post κs a p s → eliminated_offset.Post κs a q t → p ≡ q
 eliminated-offset κs a s t p q = named _ p q
 
 pub block-place : (κs : Lfts 1) (a : _) (s t : _) (p q : Place) → places.Post κs a p s → places.Post κs a q t → p ≡ q

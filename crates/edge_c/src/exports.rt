@@ -111,13 +111,13 @@ pub extern "C" fn pivotfern_operator(
     second: &mut u64,
 ) -> u32
     ensures { let m = columns_of nrows ptrs.now rows.now values.now in
-        let keptLent = spread_of kept_starts.now kept_lo.now kept_hi.now kept_local.now in
-        let elimsLent = spread_of elims_starts.now elims_lo.now elims_hi.now elims_local.now in
+        let kept_lent = spread_of kept_starts.now kept_lo.now kept_hi.now kept_local.now in
+        let elims_lent = spread_of elims_starts.now elims_lo.now elims_hi.now elims_local.now in
         let told : Crossed = record { number = result; first = first.new; second = second.new } in
         record { told = told; left = (map.new, record { rows = y.new; t = t.new; u = u.new; out = out.new }) }
         ≡ operator_export
         (schur_operator m kept.now elims.now chunk_len map.old
-        (record { v = v.now; inverses = inverses.now; d = d.now; kept = keptLent; elims = elimsLent })
+        (record { v = v.now; inverses = inverses.now; d = d.now; kept = kept_lent; elims = elims_lent })
         (record { rows = y.old; t = t.old; u = u.old; out = out.old })) }
 {
     edge::exports::pivotfern_operator(

@@ -30,42 +30,42 @@ pub record Buffers : Type 0 where
 abbrev pub buffers : List ℕ → List ℕ → List ℕ → List ℕ → List ℕ → List ℕ → List ℕ → List ℕ → List ℕ
     → List ℕ → List ℕ → List ℕ → List ℕ → List ℕ → List ℕ → List ℕ → List ℕ → Buffers
 buffers
-    map kept_cols elims_cols elims_blocks owners rowList rowStarts visible visibleStarts
-    keptStarts kept_lo kept_hi keptLocal elimsStarts elimsLo elimsHi elimsLocal = record {
+    map kept_cols elims_cols elims_blocks owners row_list row_starts visible visible_starts
+    kept_starts kept_lo kept_hi kept_local elims_starts elims_lo elims_hi elims_local = record {
       map = map;
       kept_cols = kept_cols;
       elims_cols = elims_cols;
       elims_blocks = elims_blocks;
       owners = owners;
-      row_lists = record { list = rowList; starts = rowStarts };
-      visible = record { list = visible; starts = visibleStarts };
-      kept = record { starts = keptStarts; lo = kept_lo; hi = kept_hi; local = keptLocal };
-      elims = record { starts = elimsStarts; lo = elimsLo; hi = elimsHi; local = elimsLocal };
+      row_lists = record { list = row_list; starts = row_starts };
+      visible = record { list = visible; starts = visible_starts };
+      kept = record { starts = kept_starts; lo = kept_lo; hi = kept_hi; local = kept_local };
+      elims = record { starts = elims_starts; lo = elims_lo; hi = elims_hi; local = elims_local };
     }
 
 -- each buffer's length and its need, for n columns, that many rows, entries, kept and eliminated blocks, and chunks
 abbrev pub room_list : ℕ → ℕ → ℕ → ℕ → ℕ → ℕ
     → ℕ → ℕ → ℕ → ℕ → ℕ → ℕ → ℕ → ℕ → ℕ → ℕ → ℕ → ℕ → ℕ → ℕ → ℕ → ℕ → ℕ → List ℕ
 room_list
-    n nrows entries kept elims chunks map kept_cols elims_cols elims_blocks owners rowList rowStarts visible visibleStarts
-    keptStarts kept_lo kept_hi keptLocal elimsStarts elimsLo elimsHi elimsLocal =
+    n nrows entries kept elims chunks map kept_cols elims_cols elims_blocks owners row_list row_starts visible visible_starts
+    kept_starts kept_lo kept_hi kept_local elims_starts elims_lo elims_hi elims_local =
     map ∷ n
     ∷ kept_cols ∷ n
     ∷ elims_cols ∷ n
     ∷ elims_blocks ∷ n
     ∷ owners ∷ nrows
-    ∷ rowList ∷ nrows
-    ∷ rowStarts ∷ (elims + 1)
+    ∷ row_list ∷ nrows
+    ∷ row_starts ∷ (elims + 1)
     ∷ visible ∷ entries
-    ∷ visibleStarts ∷ (kept + 1)
-    ∷ keptStarts ∷ (chunks + 1)
+    ∷ visible_starts ∷ (kept + 1)
+    ∷ kept_starts ∷ (chunks + 1)
     ∷ kept_lo ∷ entries
     ∷ kept_hi ∷ entries
-    ∷ keptLocal ∷ entries
-    ∷ elimsStarts ∷ (chunks + 1)
-    ∷ elimsLo ∷ entries
-    ∷ elimsHi ∷ entries
-    ∷ elimsLocal ∷ entries
+    ∷ kept_local ∷ entries
+    ∷ elims_starts ∷ (chunks + 1)
+    ∷ elims_lo ∷ entries
+    ∷ elims_hi ∷ entries
+    ∷ elims_local ∷ entries
     ∷ []
 
 abbrev pub room_of : ℕ → ℕ → ℕ → ℕ → ℕ → ℕ → Buffers → List ℕ

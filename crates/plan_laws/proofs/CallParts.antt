@@ -8,7 +8,7 @@ use borrow.Fn.World.{ArgsD}
 use Rattle.columns.specs.Columns.{Columns, columns_of}
 use Rattle.plan.specs.Plan.{Buffers, buffers}
 use Rattle.plan.specs.contracts.structure.plan as planning
-use Rattle.plan.proofs.structure.plan.Kinds as planKinds
+use Rattle.plan.proofs.structure.plan.Kinds as plan_kinds
 
 module _ (κs : Lfts 22) (a : ArgsD planning.signature κs) where
   abbrev pub plan_columns : Columns
@@ -26,6 +26,6 @@ module _ (κs : Lfts 22) (a : ArgsD planning.signature κs) where
   abbrev pub plan_lent : Buffers
   plan_lent = buffers a.1.1.1.1.1.1.1.0.now a.1.1.1.1.1.1.1.1.0.now a.1.1.1.1.1.1.1.1.1.0.now a.1.1.1.1.1.1.1.1.1.1.0.now a.1.1.1.1.1.1.1.1.1.1.1.0.now a.1.1.1.1.1.1.1.1.1.1.1.1.0.now a.1.1.1.1.1.1.1.1.1.1.1.1.1.0.now a.1.1.1.1.1.1.1.1.1.1.1.1.1.1.0.now a.1.1.1.1.1.1.1.1.1.1.1.1.1.1.1.0.now a.1.1.1.1.1.1.1.1.1.1.1.1.1.1.1.1.0.now a.1.1.1.1.1.1.1.1.1.1.1.1.1.1.1.1.1.0.now a.1.1.1.1.1.1.1.1.1.1.1.1.1.1.1.1.1.1.0.now a.1.1.1.1.1.1.1.1.1.1.1.1.1.1.1.1.1.1.1.0.now a.1.1.1.1.1.1.1.1.1.1.1.1.1.1.1.1.1.1.1.1.0.now a.1.1.1.1.1.1.1.1.1.1.1.1.1.1.1.1.1.1.1.1.1.0.now a.1.1.1.1.1.1.1.1.1.1.1.1.1.1.1.1.1.1.1.1.1.1.0.now a.1.1.1.1.1.1.1.1.1.1.1.1.1.1.1.1.1.1.1.1.1.1.1.0.now
 
-module _ (κs : Lfts 22) (t : AtExit (ended_of 22 planKinds.ps planKinds.r) κs) where
+module _ (κs : Lfts 22) (t : AtExit (ended_of 22 plan_kinds.ps plan_kinds.r) κs) where
   abbrev pub plan_leaves_of : Buffers
   plan_leaves_of = buffers t.1.1.1.1.1.1.1.0.now t.1.1.1.1.1.1.1.1.0.now t.1.1.1.1.1.1.1.1.1.0.now t.1.1.1.1.1.1.1.1.1.1.0.now t.1.1.1.1.1.1.1.1.1.1.1.0.now t.1.1.1.1.1.1.1.1.1.1.1.1.0.now t.1.1.1.1.1.1.1.1.1.1.1.1.1.0.now t.1.1.1.1.1.1.1.1.1.1.1.1.1.1.0.now t.1.1.1.1.1.1.1.1.1.1.1.1.1.1.1.0.now t.1.1.1.1.1.1.1.1.1.1.1.1.1.1.1.1.0.now t.1.1.1.1.1.1.1.1.1.1.1.1.1.1.1.1.1.0.now t.1.1.1.1.1.1.1.1.1.1.1.1.1.1.1.1.1.1.0.now t.1.1.1.1.1.1.1.1.1.1.1.1.1.1.1.1.1.1.1.0.now t.1.1.1.1.1.1.1.1.1.1.1.1.1.1.1.1.1.1.1.1.0.now t.1.1.1.1.1.1.1.1.1.1.1.1.1.1.1.1.1.1.1.1.1.0.now t.1.1.1.1.1.1.1.1.1.1.1.1.1.1.1.1.1.1.1.1.1.1.0.now t.1.1.1.1.1.1.1.1.1.1.1.1.1.1.1.1.1.1.1.1.1.1.1.0.now

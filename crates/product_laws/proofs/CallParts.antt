@@ -13,11 +13,11 @@ use Rattle.plan.specs.Spans.{Spread}
 use Rattle.products.specs.Side.{eliminated}
 use Rattle.products.specs.Operator.{Operands, Work}
 use Rattle.products.specs.contracts.order.sweep as sweeping
-use Rattle.products.proofs.order.sweep.Kinds as sweepKinds
+use Rattle.products.proofs.order.sweep.Kinds as sweep_kinds
 use Rattle.products.specs.contracts.order.step as stepping
-use Rattle.products.proofs.order.step.Kinds as stepKinds
+use Rattle.products.proofs.order.step.Kinds as step_kinds
 use Rattle.products.specs.contracts.operator.apply_schur_operator as operating
-use Rattle.products.proofs.operator.apply_schur_operator.Kinds as operatorKinds
+use Rattle.products.proofs.operator.apply_schur_operator.Kinds as operator_kinds
 
 -- ---- sweep
 
@@ -55,7 +55,7 @@ module _ (κs : Lfts 14) (a : ArgsD sweeping.signature κs) where
   abbrev pub sweep_order : List ℕ
   sweep_order = a.1.1.1.1.1.1.1.1.1.1.1.1.1.1.1.1.0.now
 
-module _ (κs : Lfts 14) (t : AtExit (ended_of 14 sweepKinds.ps sweepKinds.r) κs) where
+module _ (κs : Lfts 14) (t : AtExit (ended_of 14 sweep_kinds.ps sweep_kinds.r) κs) where
   abbrev pub sweep_map_left : List ℕ
   sweep_map_left = t.1.1.1.1.1.1.1.0.now
 
@@ -101,7 +101,7 @@ module _ (κs : Lfts 13) (a : ArgsD stepping.signature κs) where
   abbrev pub step_chunk_of : ℕ
   step_chunk_of = a.1.1.1.1.1.1.1.1.1.1.1.1.1.1.1.1.0
 
-module _ (κs : Lfts 13) (t : AtExit (ended_of 13 stepKinds.ps stepKinds.r) κs) where
+module _ (κs : Lfts 13) (t : AtExit (ended_of 13 step_kinds.ps step_kinds.r) κs) where
   abbrev pub step_map_left : List ℕ
   step_map_left = t.1.1.1.1.1.1.1.0.now
 
@@ -141,7 +141,7 @@ module _ (κs : Lfts 21) (a : ArgsD operating.signature κs) where
   abbrev pub operator_work : Work
   operator_work = record { rows = a.1.1.1.1.1.1.1.1.1.1.1.1.1.1.1.1.1.1.1.0.now; t = a.1.1.1.1.1.1.1.1.1.1.1.1.1.1.1.1.1.1.1.1.0.now; u = a.1.1.1.1.1.1.1.1.1.1.1.1.1.1.1.1.1.1.1.1.1.0.now; out = a.1.1.1.1.1.1.1.1.1.1.1.1.1.1.1.1.1.1.1.1.1.1.0.now }
 
-module _ (κs : Lfts 21) (t : AtExit (ended_of 21 operatorKinds.ps operatorKinds.r) κs) where
+module _ (κs : Lfts 21) (t : AtExit (ended_of 21 operator_kinds.ps operator_kinds.r) κs) where
   abbrev pub operator_map_left : List ℕ
   operator_map_left = t.1.1.1.1.1.1.0.now
 

@@ -84,16 +84,16 @@ sizes_of o w = record {
 
 -- the pairs, for that many rows and chunks, the two dofs and the count of the inverses' values
 abbrev pub operator_pairs : ℕ → ℕ → ℕ → ℕ → ℕ → Sizes → Spread → Spread → List ℕ
-operator_pairs nrows chunks keptDof elimsDof count z kept elims =
-    z.v ∷ keptDof
+operator_pairs nrows chunks kept_dof elims_dof count z kept elims =
+    z.v ∷ kept_dof
     ∷ z.inverses ∷ count
-    ∷ damp_length z.d keptDof ∷ keptDof
+    ∷ damp_length z.d kept_dof ∷ kept_dof
     ∷ plan_lengths chunks kept
     (plan_lengths chunks elims
     (z.rows ∷ nrows
-    ∷ z.t ∷ elimsDof
-    ∷ z.u ∷ elimsDof
-    ∷ z.out ∷ keptDof ∷ []))
+    ∷ z.t ∷ elims_dof
+    ∷ z.u ∷ elims_dof
+    ∷ z.out ∷ kept_dof ∷ []))
 
 unfoldable pub operator_lengths : Columns → List ℕ → List ℕ → ℕ → Operands → Work → List ℕ
 operator_lengths m kept elims len o w =

@@ -12,9 +12,9 @@ use Rattle.products.specs.Orders.{spans_told}
 
 -- 11, and 13 of either side, kept first
 unfoldable pub operator_lent : ℕ → Columns → ℕ → ℕ → ℕ → ℕ → Sizes → Spread → Spread → Told
-operator_lent nrows m len keptDof elimsDof count z kept elims =
-    or_else (wrong_length (operator_pairs nrows (chunk_count_of nrows len) keptDof elimsDof count z kept elims))
-    (or_else (spans_told false m keptDof len (chunk_count_of nrows len) kept) (spans_told true m elimsDof len (chunk_count_of nrows len) elims))
+operator_lent nrows m len kept_dof elims_dof count z kept elims =
+    or_else (wrong_length (operator_pairs nrows (chunk_count_of nrows len) kept_dof elims_dof count z kept elims))
+    (or_else (spans_told false m kept_dof len (chunk_count_of nrows len) kept) (spans_told true m elims_dof len (chunk_count_of nrows len) elims))
 
 -- d·v added to the first places of out, as many as d has
 unfoldable pub damp_at : List Float → List Float → ℕ → List Float → List Float

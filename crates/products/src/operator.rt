@@ -66,12 +66,12 @@ fn check_operands(
 ) -> Answer
     requires risen { Risen ptrs.now rows.now }
     requires chunked { Chunked nrows chunk_len }
-    ensures { let keptLent = spread_of kept_starts.now kept_lo.now kept_hi.now kept_local.now in
-        let elimsLent = spread_of elims_starts.now elims_lo.now elims_hi.now elims_local.now in
+    ensures { let kept_lent = spread_of kept_starts.now kept_lo.now kept_hi.now kept_local.now in
+        let elims_lent = spread_of elims_starts.now elims_lo.now elims_hi.now elims_local.now in
         told result
         ≡ operator_lent nrows (rows_only rows.now) chunk_len kept_dof elims_dof count
-        (record { v = sizes.v; inverses = sizes.inverses; d = sizes.d; rows = sizes.rows; t = sizes.t; u = sizes.u; out = sizes.out }) keptLent
-        elimsLent }
+        (record { v = sizes.v; inverses = sizes.inverses; d = sizes.d; rows = sizes.rows; t = sizes.t; u = sizes.u; out = sizes.out }) kept_lent
+        elims_lent }
 {
     let chunks = chunk_count(nrows, chunk_len);
     let kept_spans = kept_lo.len();
@@ -177,11 +177,11 @@ pub fn apply_schur_operator(
     out: &mut [f64],
 ) -> Answer
     ensures { let m = columns_of nrows ptrs.now rows.entry.now values.now in
-        let keptLent = spread_of kept_starts.now kept_lo.now kept_hi.now kept_local.now in
-        let elimsLent = spread_of elims_starts.now elims_lo.now elims_hi.now elims_local.now in
+        let kept_lent = spread_of kept_starts.now kept_lo.now kept_hi.now kept_local.now in
+        let elims_lent = spread_of elims_starts.now elims_lo.now elims_hi.now elims_local.now in
         record { told = told result; map = map.new; work = record { rows = y.new; t = t.new; u = u.new; out = out.new } }
         ≡ schur_operator m kept.now elims.now chunk_len map.old
-        (record { v = v.entry.now; inverses = inverses.now; d = d.now; kept = keptLent; elims = elimsLent })
+        (record { v = v.entry.now; inverses = inverses.now; d = d.now; kept = kept_lent; elims = elims_lent })
         (record { rows = y.old; t = t.old; u = u.old; out = out.old }) }
 {
     let checked = check_chunked(nrows, ptrs, rows, values, kept, elims, chunk_len, map);

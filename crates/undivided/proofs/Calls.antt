@@ -12,7 +12,7 @@ use Rattle.columns.specs.Sums.{RowTerm}
 use Rattle.plan.specs.Spans.{chunk_count_of}
 use Rattle.products.specs.Orders.{span_terms, order_terms}
 use Rattle.plan.specs.contracts.structure.plan as planning
-use Rattle.plan.proofs.structure.plan.Kinds as planKinds
+use Rattle.plan.proofs.structure.plan.Kinds as plan_kinds
 use Rattle.products.specs.contracts.order.sweep as sweeping
 use Rattle.products.specs.contracts.order.step as stepping
 use Rattle.products.specs.contracts.operator.apply_schur_operator as operating
@@ -21,7 +21,7 @@ use Rattle.product_laws.proofs.CallParts.{sweep_columns, sweep_kept, sweep_elims
 use Rattle.undivided.specs.Undivided.{cut, lists_of, OverPlan}
 
 -- one side's plan, with the span counts k and n that were answered: its lists as they are left, cut to their used parts
-abbrev pub plan_over : (κs : Lfts 22) → ArgsD planning.signature κs → AtExit (ended_of 22 planKinds.ps planKinds.r) κs → ℕ → ℕ → Bool → OverPlan
+abbrev pub plan_over : (κs : Lfts 22) → ArgsD planning.signature κs → AtExit (ended_of 22 plan_kinds.ps plan_kinds.r) κs → ℕ → ℕ → Bool → OverPlan
 plan_over κs a t k n e = record {
   columns = plan_columns κs a;
   kept = plan_kept κs a;

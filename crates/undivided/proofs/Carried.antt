@@ -62,7 +62,7 @@ use Rattle.undivided.proofs.Calls.{plan_over, sweep_over, step_over, operator_ov
 use Rattle.plan.proofs.structure.plan.Reads as plan
 use Rattle.products.proofs.order.sweep.Reads as sweep
 use Rattle.products.specs.contracts.order.step as stepping
-use Rattle.products.proofs.order.step.Kinds as stepKinds
+use Rattle.products.proofs.order.step.Kinds as step_kinds
 use Rattle.products.proofs.order.step.Reads as step
 use Rattle.products.proofs.operator.apply_schur_operator.Reads as operator
 
@@ -200,7 +200,7 @@ module _ (κs : Lfts 13) (a : _) (t : _) (q : Answer) (post : step.Post κs a q 
       (plan-places w.columns w.kept w.elims (step_side κs a) w.len w.lists p (step_map κs a) (step_vector κs a) (step_rows κs a) (step_progress κs a) place low high)
 
 -- calls of `step`, place by place of an order
-module _ (κs : ℕ → Lfts 13) (a : (i : ℕ) → ArgsD stepping.signature (κs i)) (t : (i : ℕ) → AtExit (ended_of 13 stepKinds.ps stepKinds.r) (κs i)) where
+module _ (κs : ℕ → Lfts 13) (a : (i : ℕ) → ArgsD stepping.signature (κs i)) (t : (i : ℕ) → AtExit (ended_of 13 step_kinds.ps step_kinds.r) (κs i)) where
   -- all else lent stays the same, each map has room, and rows and progress are y and 0, and then as the step before left them
   pub record Chain (e : Bool) (l : OverPlan) (v : List Float) (order : List ℕ) (y : List Float) : Type 0 where
     pub sides : (i : ℕ) → i < length order → step_side (κs i) (a i) ≡ e
@@ -379,7 +379,7 @@ module _ (κs : Lfts 22) (a : _) (t : _) (k n : ℕ) (made : plan.Post κs a (pl
   planned_sweep λs b u q post same ok = sweep_whole λs b u q post (lent_carried κs a t k n made (sweep_side λs b) (sweep_over λs b) same) ok
 
   -- so do steps one after the other, from any rows, where the order serves each chunk as often as it has spans
-  pub planned_steps : (λs : ℕ → Lfts 13) (b : (i : ℕ) → ArgsD stepping.signature (λs i)) (u : (i : ℕ) → AtExit (ended_of 13 stepKinds.ps stepKinds.r) (λs i)) (q : ℕ → Answer) (e : Bool) (l : OverPlan) (v : List Float) (order : List ℕ) (y : List Float)
+  pub planned_steps : (λs : ℕ → Lfts 13) (b : (i : ℕ) → ArgsD stepping.signature (λs i)) (u : (i : ℕ) → AtExit (ended_of 13 step_kinds.ps step_kinds.r) (λs i)) (q : ℕ → Answer) (e : Bool) (l : OverPlan) (v : List Float) (order : List ℕ) (y : List Float)
       → ((i : ℕ) → i < length order → step.Post (λs i) (b i) (q i) (u i)) → Chain λs b u e l v order y → l ≡ plan_over κs a t k n e → VectorsFit e l v y → ServesOver l order
       → Undivided e l v y (terms_of λs b u (length order)) (rows_after λs b u y (length order))
   planned_steps λs b u q e l v order y post c same f x = steps_whole λs b u q e l v order y post c (lent_carried κs a t k n made e l same) f x

@@ -31,10 +31,10 @@ use Rattle.undivided.proofs.Calls.{plan_over, sweep_over, sweep_terms_of}
 use Rattle.undivided.proofs.Carried.{lent_carried, sweep_serves, serves_sweep, sweep_whole, Chain, rows_after, terms_of, steps_done, steps_whole}
 use Rattle.plan.proofs.structure.plan.Reads as plan
 use Rattle.products.specs.contracts.order.sweep as sweeping
-use Rattle.products.proofs.order.sweep.Kinds as sweepKinds
+use Rattle.products.proofs.order.sweep.Kinds as sweep_kinds
 use Rattle.products.proofs.order.sweep.Reads as sweep
 use Rattle.products.specs.contracts.order.step as stepping
-use Rattle.products.proofs.order.step.Kinds as stepKinds
+use Rattle.products.proofs.order.step.Kinds as step_kinds
 use Rattle.products.proofs.order.step.Reads as step
 
 -- a call of `plan`, its answer, and what it left
@@ -59,26 +59,26 @@ module _ (κs : Lfts 22) (a : _) (t : _) (q : Planned) (post : plan.Post κs a q
 
   -- a sweep over the plan that was left, all else of its length: it is accepted exactly if its order serves each chunk as often as it has spans, and
   -- then it is the undivided sweep over the rows that it starts from
-  pub record SweepGood (λs : Lfts 14) (b : ArgsD sweeping.signature λs) (u : AtExit (ended_of 14 sweepKinds.ps sweepKinds.r) λs) (w : Answer) : Type 0 where
+  pub record SweepGood (λs : Lfts 14) (b : ArgsD sweeping.signature λs) (u : AtExit (ended_of 14 sweep_kinds.ps sweep_kinds.r) λs) (w : Answer) : Type 0 where
     pub accepted : ServesOver (sweep_over λs b) (sweep_order λs b) → told w ≡ done
     pub served : told w ≡ done → ServesOver (sweep_over λs b) (sweep_order λs b)
     pub whole : told w ≡ done → Undivided (sweep_side λs b) (sweep_over λs b) (sweep_vector λs b) (start_rows (sweep_side λs b) (sweep_rows λs b)) (sweep_terms_of λs b) (sweep_rows_left λs u)
 
   pub record Sweeps : Type 0 where
     pub answered : Answered
-    pub each : (λs : Lfts 14) (b : ArgsD sweeping.signature λs) (u : AtExit (ended_of 14 sweepKinds.ps sweepKinds.r) λs) (w : Answer) → sweep.Post λs b w u
+    pub each : (λs : Lfts 14) (b : ArgsD sweeping.signature λs) (u : AtExit (ended_of 14 sweep_kinds.ps sweep_kinds.r) λs) (w : Answer) → sweep.Post λs b w u
         → sweep_over λs b ≡ over (sweep_side λs b)
         → SweepFits (sweep_over λs b).columns (over_side (sweep_side λs b) (sweep_over λs b)) (sweep_over λs b).len (sweep_map λs b) (sweep_vector λs b) (sweep_rows λs b) (sweep_progress λs b)
         → SweepGood λs b u w
 
   -- calls of `step`, place by place of an order: each is accepted, and together they are the undivided sweep over the rows that the first is lent
-  pub record StepsGood (λs : ℕ → Lfts 13) (b : (i : ℕ) → ArgsD stepping.signature (λs i)) (u : (i : ℕ) → AtExit (ended_of 13 stepKinds.ps stepKinds.r) (λs i)) (w : ℕ → Answer) (e : Bool) (v : List Float) (order : List ℕ) (y : List Float) : Type 0 where
+  pub record StepsGood (λs : ℕ → Lfts 13) (b : (i : ℕ) → ArgsD stepping.signature (λs i)) (u : (i : ℕ) → AtExit (ended_of 13 step_kinds.ps step_kinds.r) (λs i)) (w : ℕ → Answer) (e : Bool) (v : List Float) (order : List ℕ) (y : List Float) : Type 0 where
     pub accepted : (i : ℕ) → i < length order → told (w i) ≡ done
     pub whole : Undivided e (over e) v y (terms_of λs b u (length order)) (rows_after λs b u y (length order))
 
   pub record Steps : Type 0 where
     pub answered : Answered
-    pub each : (λs : ℕ → Lfts 13) (b : (i : ℕ) → ArgsD stepping.signature (λs i)) (u : (i : ℕ) → AtExit (ended_of 13 stepKinds.ps stepKinds.r) (λs i)) (w : ℕ → Answer) (e : Bool) (v : List Float) (order : List ℕ) (y : List Float)
+    pub each : (λs : ℕ → Lfts 13) (b : (i : ℕ) → ArgsD stepping.signature (λs i)) (u : (i : ℕ) → AtExit (ended_of 13 step_kinds.ps step_kinds.r) (λs i)) (w : ℕ → Answer) (e : Bool) (v : List Float) (order : List ℕ) (y : List Float)
         → ((i : ℕ) → i < length order → step.Post (λs i) (b i) (w i) (u i)) → Chain λs b u e (over e) v order y → VectorsFit e (over e) v y → ServesOver (over e) order
         → StepsGood λs b u w e v order y
 

@@ -30,7 +30,7 @@ use Rattle.columns.specs.declared.refusal.Refusal.TheVariants.{Connected}
 use Rattle.plan.specs.Owners.{entry_at, column_entries, block_entries, holder, clashes, connected_told}
 use Rattle.plan_laws.proofs.ConnectedLaws.{told_connects}
 use Rattle.plan.specs.Spans.{chunk_told, chunk_count_of, in_chunk, place_in, past_last, column_span, local_spans, Spread}
-use Rattle.plan.specs.Plan.{Buffers, lent as lentBack}
+use Rattle.plan.specs.Plan.{Buffers, lent as lent_back}
 use Rattle.plan.specs.contracts.structure.plan as planning
 use Rattle.plan.proofs.structure.plan.Reads as plan
 use Rattle.products.specs.declared.side.Side.{Side}
@@ -104,7 +104,7 @@ module _ (κs : Lfts 22) where
 
   -- case 6, where column 2 is moved, is the other branch: two eliminated blocks have entries in a row, and the answer is 10
   abbrev after_ten : Buffers
-  after_ten = lentBack marked_map (mark ∷ mark ∷ mark ∷ mark ∷ mark ∷ []) unused_buffers
+  after_ten = lent_back marked_map (mark ∷ mark ∷ mark ∷ mark ∷ mark ∷ []) unused_buffers
 
   pub moved-planned : plan.Post κs (plan_on moved unused_buffers) (Refused₁₀ (Connected 1 0)) (plan_on moved after_ten)
   moved-planned = sym hall_table.connected
