@@ -32,13 +32,13 @@ module _ (values : List Float) (elims : List ℕ) (b : ℕ) where
     unfolding block_part block_place
     part_length = rw full (simp (length-take, length-drop) (omega (arith, reached)))
 
-    pub part_at : (i : ℕ) → i < square_of elims b → get_or (block_part values elims b) i nan ≡ get_or values (squares_before elims b + i) nan
+    pub part_at_lem : (i : ℕ) → i < square_of elims b → get_or (block_part values elims b) i nan ≡ get_or values (squares_before elims b + i) nan
     unfolding block_part block_place
-    part_at i h = rw (full, get_or-take, get_or-drop)
+    part_at_lem i h = rw (full, get_or-take, get_or-drop)
 
     pub entry-part : (r c : ℕ) → r < dof_of elims b → c < dof_of elims b → entry_in_of values elims b r c ≡ entry.Value (get_or (block_part values elims b) (entry_place elims b r c) nan)
     unfolding entry_in_of
-    entry-part r c h l = rw (full, lt-ltb r (dof_of elims b) h, lt-ltb c (dof_of elims b) l, part_at (entry_place elims b r c) (entry-inside elims b r c h l))
+    entry-part r c h l = rw (full, lt-ltb r (dof_of elims b) h, lt-ltb c (dof_of elims b) l, part_at_lem (entry_place elims b r c) (entry-inside elims b r c h l))
 
   pub part_none : reaches (length values) elims b ≡ false → block_part values elims b ≡ []
   unfolding block_part block_place

@@ -121,8 +121,8 @@ place-fits n elims b = go (ltb b (asked elims)) (leb (squares_before elims b + s
     go true false e = omega arith
     go false u e = omega arith
 
-pub place_in : (n : ℕ) (elims : List ℕ) (b : ℕ) (p : Place) → p ≡ block_place n elims b → p.start + p.length ≤ n
-place_in n elims b p e = rw e (place-fits n elims b)
+pub place_in_lem : (n : ℕ) (elims : List ℕ) (b : ℕ) (p : Place) → p ≡ block_place n elims b → p.start + p.length ≤ n
+place_in_lem n elims b p e = rw e (place-fits n elims b)
 
 pub part-is : (values : List Float) (elims : List ℕ) (b : ℕ) (p : Place) → p ≡ block_place (length values) elims b
     → take (p.start + p.length - p.start) (drop p.start values) ≡ block_part values elims b
@@ -185,7 +185,7 @@ module _ (values : List Float) (elims : List ℕ) (b : ℕ) (p : Place) (e : p �
       unfolding square_of
       entry_in k l =
           let q : p.length ≡ d * d = rw f (place-full h).2 in
-          omega (arith, in_square d r c k l, place_in (length values) elims b p e)
+          omega (arith, in_square d r c k l, place_in_lem (length values) elims b p e)
 
       pub entry_value : r < d → c < d → entry.Value (get_or values (p.start + (c * d + r)) nan) ≡ entry_in_of values elims b r c
       unfolding entry_in_of entry_place

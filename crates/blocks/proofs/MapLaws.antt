@@ -1,6 +1,6 @@
 -- What the column map holds after a call: nothing new after 1 to 6, marks after a later refusal, and on success at each column its place among the
 -- kept columns and then the eliminated ones. Assumes nothing.
-use Rattle.ground.proofs.ListLaws.{get_d_front}
+use Rattle.ground.proofs.ListLaws.{get_or-front}
 use mathlib.Core.Path.{◌≡◌, refl, sym, ap, ◌∙◌}
 use mathlib.Core.Bool.{Bool, true, false, cond}
 use mathlib.Core.List.{List, [], ◌++◌}
@@ -95,7 +95,7 @@ map_on n kept elims rest = list_of (place_of (claims n kept elims)) n ++ rest
 
 module _ (n : ℕ) (kept elims rest : List ℕ) (p : Parted n kept elims) where
   pub map-place : (c : ℕ) → c < n → get_or (map_on n kept elims rest) c 0 ≡ place_of (claims n kept elims) c
-  map-place c h = get_d_front 0 (place_of (claims n kept elims)) n rest c h
+  map-place c h = get_or-front 0 (place_of (claims n kept elims)) n rest c h
 
   -- at a column of a block: the kept dof where the block is eliminated, the dofs of earlier blocks of its side, and the offset
   pub map-has : (e : Bool) (b i c : ℕ) → HasAt (side_of e kept elims) b i c → get_or (map_on n kept elims rest) c 0 ≡ cond e (side_dof kept) 0 + (offset_of (side_of e kept elims) b + i)

@@ -10,7 +10,7 @@ use native.Mathlib.Omega.{arith}
 use lib.ListN.{length, get_or, length-append, get_or-append}
 use lib.Seq.{get_or-append-add}
 use Rattle.ground.specs.Gather.{gather}
-use Rattle.ground.proofs.GatherLaws.{gather_none, gather_last, length-list_of, get_d_list_of}
+use Rattle.ground.proofs.GatherLaws.{gather_none, gather_last, length-list_of, get_or-list_of}
 use Rattle.blocks.specs.Sides.{block_count, first_of, dof_of, block_columns, cols, offset_of, side_dof, HasAt, side_of}
 
 module _ (side : List ℕ) where
@@ -20,7 +20,7 @@ module _ (side : List ℕ) where
 
   pub block_at : (b i : ℕ) → i < dof_of side b → get_or (block_columns side b) i 0 ≡ first_of side b + i
   unfolding block_columns
-  block_at b i h = get_d_list_of (λ i. first_of side b + i) 0 (dof_of side b) i h
+  block_at b i h = get_or-list_of (λ i. first_of side b + i) 0 (dof_of side b) i h
 
   -- the blocks before b have as many columns as their dofs
   pub offset-length : (b : ℕ) → length (gather (block_columns side) 0 b) ≡ offset_of side b

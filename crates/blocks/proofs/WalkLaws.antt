@@ -1,6 +1,6 @@
 -- The walk on the map tells and leaves what specs/Claims.antt says: after the claims `seen` the map holds the place of each among them, and the
 -- mark elsewhere. Assumes nothing.
-use Rattle.ground.proofs.ListLaws.{list_of_same, list_of_all, set-list_of, get_d_front}
+use Rattle.ground.proofs.ListLaws.{list_of_same, list_of_all, set-list_of, get_or-front}
 use mathlib.Core.Path.{◌≡◌, refl, sym, ap, ◌∙◌}
 use mathlib.Core.Bool.{true, false, cond}
 use mathlib.Core.List.{List, [], ◌∷◌, ◌++◌, append_assoc, append-nil}
@@ -16,7 +16,7 @@ use Rattle.ground.specs.First.{first}
 use Rattle.ground.specs.Fold.{folded}
 use Rattle.ground.specs.Gather.{list_of}
 use Rattle.ground.proofs.FirstLaws.{first-low, first_stop, first_turn, past_none, first_same}
-use Rattle.ground.proofs.GatherLaws.{length-list_of, get_d_list_of}
+use Rattle.ground.proofs.GatherLaws.{length-list_of, get_or-list_of}
 use Rattle.columns.specs.declared.refusal.Refusal.{Refusal}
 use Rattle.columns.specs.Refusals.{Told, tell, done, refused, number, Passes, on_pass}
 use Rattle.columns.proofs.RefusalLaws.{number-some, pass_done, pass_refused, passed}
@@ -49,11 +49,11 @@ module _ (n : ℕ) (r : List ℕ) where
 
   state_taken : (seen : List ℕ) (c : ℕ) → length seen ≤ mark → c < n → place_of seen c < length seen → is_free_of (state n r seen) c ≡ false
   unfolding state is_free_of
-  state_taken seen c l h p = rw (get_d_front 0 (number_in seen) n r c h, number_in_lem seen c p) (ne_eqb (place_of seen c) mark (λ e. omega arith))
+  state_taken seen c l h p = rw (get_or-front 0 (number_in seen) n r c h, number_in_lem seen c p) (ne_eqb (place_of seen c) mark (λ e. omega arith))
 
   state_free : (seen : List ℕ) (c : ℕ) → c < n → length seen ≤ place_of seen c → is_free_of (state n r seen) c ≡ true
   unfolding state is_free_of
-  state_free seen c h p = rw (get_d_front 0 (number_in seen) n r c h, number-out seen c p) (eq-eqb mark mark refl)
+  state_free seen c h p = rw (get_or-front 0 (number_in seen) n r c h, number-out seen c p) (eq-eqb mark mark refl)
 
   -- what the search for 9 sees
   state_search : (seen : List ℕ) (c : ℕ) → length seen ≤ mark → c < n → is_free_of (state n r seen) c ≡ leb (length seen) (place_of seen c)
@@ -272,7 +272,7 @@ claims-count n cs few p q =
     let k : mark_count (take n o.map) ≡ 0 =
     (rw t (marks_none (list_of (place_of cs) n) (λ i h g.
     let l : i < n = rw (length-list_of (place_of cs) 0 n) at h in
-    let v = get_d_list_of (place_of cs) 0 n i l in
+    let v = get_or-list_of (place_of cs) 0 n i l in
     let u : place_of cs i < length cs = leb-false _ _ (past_none _ 0 n e i (omega arith) l) in
     let s = room.free in
     let y = f.1 in

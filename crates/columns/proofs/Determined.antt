@@ -86,8 +86,8 @@ number κs a s t p q = named _ p q
 pub values : (κs : Lfts 0) (a : _) (s t : _) (p q : Values) → values-reads.Post κs a p s → values-reads.Post κs a q t → p ≡ q
 values κs a s t p q = named _ p q
 
-pub or_else : (κs : Lfts 0) (a : _) (s t : _) (p q : Answer) → or-else-reads.Post κs a p s → or-else-reads.Post κs a q t → p ≡ q
-or_else κs a s t p q = told_determined _ p q
+pub or_else_lem : (κs : Lfts 0) (a : _) (s t : _) (p q : Answer) → or-else-reads.Post κs a p s → or-else-reads.Post κs a q t → p ≡ q
+or_else_lem κs a s t p q = told_determined _ p q
 
 pub sooner : (κs : Lfts 0) (a : _) (s t : _) (p q : Answer) → sooner-reads.Post κs a p s → sooner-reads.Post κs a q t → p ≡ q
 sooner κs a s t p q = told_determined _ p q

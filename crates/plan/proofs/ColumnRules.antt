@@ -8,7 +8,7 @@ use lib.ListN.{length, get_or, set, drop, length-append}
 use Rattle.ground.specs.Gather.{gather, list_of}
 use Rattle.ground.proofs.Rules.{loops}
 use Rattle.ground.proofs.RangeLaws.{range_split, done}
-use Rattle.ground.proofs.GatherLaws.{gather_none, gather_last, length-list_of, get_d_list_of}
+use Rattle.ground.proofs.GatherLaws.{gather_none, gather_last, length-list_of, get_or-list_of}
 use Rattle.ground.proofs.ListLaws.{gather-at, written_front, list_back}
 use Rattle.blocks.specs.Sides.{block_count, first_of, dof_of, cols, offset_of, side_dof}
 use Rattle.blocks.proofs.SideLaws.{cols-length, cols-at, offset-next}
@@ -36,7 +36,7 @@ pub number_at : (side : List ℕ) (b i : ℕ) → b < block_count side → i < d
 unfolding column_blocks
 number_at side b i h l =
     rw (← numbers-length side b) (gather-at 0 (λ b. list_of (λ _. b) (dof_of side b)) b (block_count side) i h (rw (length-list_of (λ _. b) 0 (dof_of side b)) l))
-    ∙ get_d_list_of (λ _. b) 0 (dof_of side b) i l
+    ∙ get_or-list_of (λ _. b) 0 (dof_of side b) i l
 
 -- ---- one block: first, dof and number are what the code read
 

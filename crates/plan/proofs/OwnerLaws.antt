@@ -1,6 +1,6 @@
 -- The walk of 10 tells and leaves what specs/Owners.antt says. Before entry k each row is held by the block of the first entry in it, if one came,
 -- so the walk stops at the first clash and nowhere else; and a row's first entry is of its first block, since blocks come in order. Assumes nothing.
-use Rattle.ground.proofs.ListLaws.{list_of_same, set-list_of, list_of_all, get_d_front}
+use Rattle.ground.proofs.ListLaws.{list_of_same, set-list_of, list_of_all, get_or-front}
 use mathlib.Core.Path.{◌≡◌, refl, sym, ap, ◌∙◌, subst}
 use mathlib.Core.Bool.{Bool, true, false, cond}
 use mathlib.Core.List.{List, [], ◌∷◌, ◌++◌}
@@ -121,7 +121,7 @@ module _ (es : List Entry) where
         ∙ set-list_of 0 (held_at k) (held_at (k + 1)) n r (inside k h) (λ i ne. held-other k i (ne_eqb r i (λ q. ne (sym q)))))
 
     at_row : (k : ℕ) → k < length es → get_or (state_at k) (entry_in_of es k).row 0 ≡ held_at k (entry_in_of es k).row
-    at_row k h = get_d_front 0 (held_at k) n rest (entry_in_of es k).row (inside k h)
+    at_row k h = get_or-front 0 (held_at k) n rest (entry_in_of es k).row (inside k h)
 
     -- the one who holds the row is no mark
     at_held : (k : ℕ) → k < length es → some (in_row (entry_in_of es k).row) 0 k ≡ true → get_or (state_at k) (entry_in_of es k).row 0 ≡ mark → ⊥

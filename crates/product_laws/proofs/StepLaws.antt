@@ -15,7 +15,7 @@ use lib.Seq.{get_or-set_other}
 use lib.Ieee.{Float, nan, eq}
 use Rattle.ground.specs.Gather.{gather, list_of}
 use Rattle.ground.specs.Fold.{All}
-use Rattle.ground.proofs.GatherLaws.{gather_none, gather_last, length-list_of, get_d_list_of}
+use Rattle.ground.proofs.GatherLaws.{gather_none, gather_last, length-list_of, get_or-list_of}
 use Rattle.ground.proofs.FoldLaws.{folded_none, folded_append}
 use Rattle.ground.proofs.EachLaws.{all_gather}
 use Rattle.ground.proofs.ListLaws.{list_of_all}
@@ -46,7 +46,7 @@ pub ran_next : (sign : Sign) (m : Columns) (s : Spread) (v : List Float) (order 
     → ran_to sign m s v order w (i + 1) ≡ stepped sign m s v (get_or order i 0) (ran_to sign m s v order w i)
 unfolding ran_to stepped place_terms
 ran_next sign m s v order w i h =
-    let d : get_or (counts (length w.progress) order i) (get_or order i 0) 0 ≡ served order (get_or order i 0) i = get_d_list_of (λ c. served order c i) 0 (length w.progress) (get_or order i 0) h in
+    let d : get_or (counts (length w.progress) order i) (get_or order i 0) 0 ≡ served order (get_or order i 0) i = get_or-list_of (λ c. served order c i) 0 (length w.progress) (get_or order i 0) h in
     let p = counts-next (length w.progress) order (counts (length w.progress) order i) i (get_or order i 0) refl refl h in
     rw (← p, d, gather_last (place_terms m s v order) 0 i (omega arith), folded_append (landed sign) w.rows (gather (place_terms m s v order) 0 i) (place_terms m s v order i))
 
@@ -146,7 +146,7 @@ module _ (e : Bool) (m : Columns) (kept elims : List ℕ) (len : ℕ) (map : Lis
     there = (next-there chunks s c (served order c i) true (sym (place-next chunks s order order-good i h)) refl).0
 
     count : get_or (steps i).progress c 0 ≡ served order c i
-    count = ap (λ (l : List ℕ). get_or l c 0) w.progress-is ∙ get_d_list_of (λ k. served order k i) 0 chunks c there
+    count = ap (λ (l : List ℕ). get_or l c 0) w.progress-is ∙ get_or-list_of (λ k. served order k i) 0 chunks c there
 
     rows-length : length (steps i).rows ≡ length y
     rows-length = ap length w.rows_are ∙ length-swept (sign_of e) y _

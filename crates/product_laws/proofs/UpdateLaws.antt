@@ -10,7 +10,7 @@ use lib.ListN.{length, get_or}
 use lib.Ieee.{Float, nan}
 use borrow.Author.Tests.{lt-ltb, le-ltb}
 use Rattle.ground.specs.Gather.{list_of}
-use Rattle.ground.proofs.GatherLaws.{length-list_of, get_d_list_of}
+use Rattle.ground.proofs.GatherLaws.{length-list_of, get_or-list_of}
 use Rattle.columns.specs.Refusals.{Passes}
 use Rattle.columns.specs.Lengths.{wrong_length}
 use Rattle.columns.specs.Columns.{Columns, column_count}
@@ -109,7 +109,7 @@ module _ (m : Columns) (kept elims map : List ℕ) (xk xe out : List Float) (pas
   unfolding combine_updates
   combine_at c h =
       ap (λ (y : List Float). get_or y c nan) (pass_done (lent_told m kept elims map (update_lengths m kept elims xk xe out)) (list_of (update_at (column_count m) kept elims xk xe) (column_count m)) out pass)
-      ∙ get_d_list_of (update_at (column_count m) kept elims xk xe) nan (column_count m) c h
+      ∙ get_or-list_of (update_at (column_count m) kept elims xk xe) nan (column_count m) c h
 
   -- column i of block b holds its own side's entry, which is at the dofs of the earlier blocks plus i
   pub combine_own : (e : Bool) (b i c : ℕ) → HasAt (side_of e kept elims) b i c

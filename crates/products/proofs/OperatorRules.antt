@@ -5,7 +5,7 @@ use Rattle.ground.specs.Range.{range}
 use Rattle.ground.specs.Gather.{list_of}
 use Rattle.ground.proofs.Rules.{loops}
 use Rattle.ground.proofs.RangeLaws.{range_none, range_last}
-use Rattle.ground.proofs.GatherLaws.{get_d_list_of}
+use Rattle.ground.proofs.GatherLaws.{get_or-list_of}
 use Rattle.ground.proofs.NumberLaws.{not_more}
 use Rattle.ground.proofs.ListLaws.{list_of_same, set-list_of}
 use Rattle.ground.proofs.FoldLaws.{folded_append, folded-one}
@@ -62,7 +62,7 @@ module _ (g : ℕ → Float) (n : ℕ) (d v : List Float) where
   damped-list (suc k) h =
       let e : k + 1 ≡ suc k = omega arith in
       let same : damped_to k k ≡ g k = rw (le-ltb k k (omega arith)) in
-      let at : get_or (list_of (damped_to k) n) k nan ≡ g k = get_d_list_of (damped_to k) nan n k h ∙ same in
+      let at : get_or (list_of (damped_to k) n) k nan ≡ g k = get_or-list_of (damped_to k) nan n k h ∙ same in
       let now : add_term (g k) (term (get_or d k nan) (get_or v k nan)) ≡ damped_to (suc k) k = rw (lt-ltb k (suc k) (omega arith)) in
       ap (λ (j : ℕ). range (damp_at d v) 0 j (list_of g n)) (sym e)
       ∙ range_last (damp_at d v) 0 k (list_of g n) (omega arith)

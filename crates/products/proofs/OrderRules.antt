@@ -10,7 +10,7 @@ use Rattle.ground.specs.Gather.{gather}
 use Rattle.ground.specs.Buckets.{filled}
 use Rattle.ground.proofs.FirstLaws.{by_call, first_same, first-high, first_turn, first_stop, first_end}
 use Rattle.ground.proofs.FoldLaws.{fold_turn, fold_done}
-use Rattle.ground.proofs.GatherLaws.{length-list_of, get_d_list_of}
+use Rattle.ground.proofs.GatherLaws.{length-list_of, get_or-list_of}
 use Rattle.ground.proofs.ListLaws.{written_all, set-list_of, list_of_all}
 use Rattle.columns.specs.declared.unchecked.Sign.{Sign}
 use Rattle.columns.specs.Refusals.{Told, tell, done}
@@ -62,7 +62,7 @@ counts_zero n order progress q e = e ∙ rw (← q) (sym (list_of_all (λ c. ser
 -- one place more
 pub counts-next : (n : ℕ) (order progress : List ℕ) (i c : ℕ) → progress ≡ counts n order i → c ≡ get_or order i 0 → c < n → set progress c (get_or progress c 0 + 1) ≡ counts n order (i + 1)
 counts-next n order progress i c e q h =
-    let d : get_or progress c 0 ≡ served order c i = ap (λ (l : List ℕ). get_or l c 0) e ∙ get_d_list_of (λ k. served order k i) 0 n c h in
+    let d : get_or progress c 0 ≡ served order c i = ap (λ (l : List ℕ). get_or l c 0) e ∙ get_or-list_of (λ k. served order k i) 0 n c h in
     let u : set progress c (get_or progress c 0 + 1) ≡ set (counts n order i) c (served order c (i + 1)) = rw (d, served_named order c i q, e) in
     u ∙ set-list_of 0 (λ k. served order k i) (λ k. served order k (i + 1)) n c h (λ k ne. served-other order k i (λ z. ne (sym z ∙ sym q)))
 
@@ -76,7 +76,7 @@ place-told n starts order progress i c t b e q call test = rw (← q) (ap not (s
     size = ap length e ∙ length-list_of (λ k. served order k i) 0 n
 
     same : Dec (c < n) → (ltb c (length progress) && ltb (get_or progress c 0) (span_count (starts_only starts) c)) ≡ (ltb c n && ltb (served order c i) (span_count (starts_only starts) c))
-    same (yes h) = let d : get_or progress c 0 ≡ served order c i = ap (λ (l : List ℕ). get_or l c 0) e ∙ get_d_list_of (λ k. served order k i) 0 n c h in rw (size, d)
+    same (yes h) = let d : get_or progress c 0 ≡ served order c i = ap (λ (l : List ℕ). get_or l c 0) e ∙ get_or-list_of (λ k. served order k i) 0 n c h in rw (size, d)
     same (no h) = rw (size, le-ltb c n (omega arith))
 
 pub next-there : (n : ℕ) (s : Spread) (c d : ℕ) (t : Bool) → t ≡ has_next n s c d → t ≡ true → (c < n) × (d < span_count s c)
@@ -146,7 +146,7 @@ module _ (n : ℕ) (starts order p p₁ p₂ : List ℕ) (i : ℕ) (size : lengt
       left_is =
           let k : length p₂ ≡ n = ap length counts_are ∙ length-list_of (λ c. served order c i) 0 n in
           left ∙ rw k (ap (λ (f : ℕ). ltb f n) (first_same (left_at starts p₂) (chunk_left (starts_only starts) order) 0 n (λ c _ l.
-          let d : get_or p₂ c 0 ≡ served order c (length order) = ap (λ (l : List ℕ). get_or l c 0) counts_are ∙ get_d_list_of (λ c. served order c i) 0 n c l ∙ ap (λ (j : ℕ). served order c j) at_end in
+          let d : get_or p₂ c 0 ≡ served order c (length order) = ap (λ (l : List ℕ). get_or l c 0) counts_are ∙ get_or-list_of (λ c. served order c i) 0 n c l ∙ ap (λ (j : ℕ). served order c j) at_end in
           rw d)))
 
       pub order-left : t ≡ true → tell 14 (i ∷ []) ≡ bad_order n (starts_only starts) order
@@ -218,7 +218,7 @@ module _ (rows : List ℕ) (nvalues nv ny k : ℕ) (s : Spread) (progress₀ pro
   run-there = (next-there (length progress₀) s c (served order c i) true (sym run-next) refl).0
 
   run-count : get_or progress c 0 ≡ served order c i
-  run-count = ap (λ (l : List ℕ). get_or l c 0) e ∙ get_d_list_of (λ c. served order c i) 0 (length progress₀) c run-there
+  run-count = ap (λ (l : List ℕ). get_or l c 0) e ∙ get_or-list_of (λ c. served order c i) 0 (length progress₀) c run-there
 
   pub run_step : StepFits rows nvalues nv k s progress c
   run_step = record { plan = rw (size, run-size) f.plan; next = rw (run-size, run-count) run-next }

@@ -9,7 +9,7 @@ use lib.Ieee.{Float}
 use Rattle.ground.specs.Gather.{gather}
 use Rattle.ground.proofs.EachLaws.{all_at}
 use Rattle.ground.proofs.ItemLaws.{each, each-gather, gather_items, gather-only}
-use Rattle.ground.proofs.GatherLaws.{gather_last, length-list_of, get_d_list_of}
+use Rattle.ground.proofs.GatherLaws.{gather_last, length-list_of, get_or-list_of}
 use Rattle.ground.proofs.ListLaws.{gather-at}
 use Rattle.ground.proofs.BucketLaws.{bucket-gather}
 use Rattle.columns.specs.Columns.{Columns}
@@ -37,7 +37,7 @@ module _ (m : Columns) (side : List ℕ) (len : ℕ) (s : Spread) (g : PlanLists
   nowhere = record { lo = 0; hi = 0; local = 0 }
 
   pub start_at : (c : ℕ) → c ≤ chunks → get_or s.starts c 0 ≡ start_of c
-  start_at c h = rw g.starts_are (get_d_list_of start_of 0 (chunks + 1) c (omega arith))
+  start_at c h = rw g.starts_are (get_or-list_of start_of 0 (chunks + 1) c (omega arith))
 
   start_next : (c : ℕ) → start_of (c + 1) ≡ start_of c + length (chunk_spans m side len c)
   start_next c = ap length (gather_last (chunk_spans m side len) 0 c (omega arith)) ∙ length-append (flat (chunk_spans m side len) c) (chunk_spans m side len c)

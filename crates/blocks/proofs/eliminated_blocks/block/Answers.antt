@@ -1,6 +1,6 @@
 -- `blocks::eliminated_blocks::block` meets its contract. Assumes nothing.
 use native.Mathlib.Omega.{arith}
-use Rattle.blocks.proofs.AccessRules.{place_in}
+use Rattle.blocks.proofs.AccessRules.{place_in_lem}
 use Rattle.blocks.proofs.AccessRules.{access}
 use Rattle.blocks.proofs.eliminated_blocks.block.Goals as goal
 
@@ -8,13 +8,13 @@ pub block_place-place-requires : goal.block_place-place-requires
 block_place-place-requires c = search access
 
 pub overflow_add-to : goal.overflow_add-to
-overflow_add-to c = omega (arith, place_in _ _ _ c.block_place-place.result c.block_place-place.ensures)
+overflow_add-to c = omega (arith, place_in_lem _ _ _ c.block_place-place.result c.block_place-place.ensures)
 
 pub offset_bounds-values-from : goal.offset_bounds-values-from
-offset_bounds-values-from c = omega (arith, place_in _ _ _ c.block_place-place.result c.block_place-place.ensures)
+offset_bounds-values-from c = omega (arith, place_in_lem _ _ _ c.block_place-place.result c.block_place-place.ensures)
 
 pub slice_bounds-result-end : goal.slice_bounds-result-end
-slice_bounds-result-end c = omega (arith, place_in _ _ _ c.block_place-place.result c.block_place-place.ensures)
+slice_bounds-result-end c = omega (arith, place_in_lem _ _ _ c.block_place-place.result c.block_place-place.ensures)
 
 pub returns : goal.returns
 returns c = search access
