@@ -77,7 +77,7 @@ fn couple(
     out: &mut [f64],
 )
     requires { CouplingFits (columns_of (length y.old) ptrs.now rows.now values.now) from.now to.now (length v.now) (length out.old) }
-    ensures { let m = columns_of (length y.old) ptrs.now rows.entry.now values.now in
+    ensures { let m = columns_of (length y.old) ptrs.now rows.now values.now in
         record { rows = y.new; out = out.new } ≡ coupled m from.now to.now v.now }
 {
     clear(y);

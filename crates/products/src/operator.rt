@@ -176,12 +176,12 @@ pub fn apply_schur_operator(
     u: &mut [f64],
     out: &mut [f64],
 ) -> Answer
-    ensures { let m = columns_of nrows ptrs.now rows.entry.now values.now in
+    ensures { let m = columns_of nrows ptrs.now rows.now values.now in
         let kept_lent = spread_of kept_starts.now kept_lo.now kept_hi.now kept_local.now in
         let elims_lent = spread_of elims_starts.now elims_lo.now elims_hi.now elims_local.now in
         record { told = told result; map = map.new; work = record { rows = y.new; t = t.new; u = u.new; out = out.new } }
         ≡ schur_operator m kept.now elims.now chunk_len map.old
-        (record { v = v.entry.now; inverses = inverses.now; d = d.now; kept = kept_lent; elims = elims_lent })
+        (record { v = v.now; inverses = inverses.now; d = d.now; kept = kept_lent; elims = elims_lent })
         (record { rows = y.old; t = t.old; u = u.old; out = out.old }) }
 {
     let checked = check_chunked(nrows, ptrs, rows, values, kept, elims, chunk_len, map);

@@ -129,7 +129,7 @@ fn do_step(
         (spread_of starts.now lo.now hi.now local.now) progress.old chunk }
     ensures { let lent = spread_of starts.now lo.now hi.now local.now in
         record { rows = y.new; progress = progress.new }
-        ≡ stepped sign (entries_only rows.entry.now values.now) lent v.now chunk
+        ≡ stepped sign (entries_only rows.now values.now) lent v.now chunk
         (record { rows = y.old; progress = progress.old }) }
 {
     let at = wide(starts[chunk]) + wide(progress[chunk]);
@@ -155,7 +155,7 @@ fn run_order(
         (spread_of starts.now lo.now hi.now local.now) progress.old order.now }
     ensures { let lent = spread_of starts.now lo.now hi.now local.now in
         record { rows = y.new; progress = progress.new }
-        ≡ ran_order sign (entries_only rows.entry.now values.now) lent v.now order.now
+        ≡ ran_order sign (entries_only rows.now values.now) lent v.now order.now
         (record { rows = y.old; progress = progress.old }) }
 {
     let n = order.len();
