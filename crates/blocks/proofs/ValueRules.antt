@@ -40,8 +40,8 @@ put_over (x ∷ xs) pre (y ∷ old) at e l =
     rw s (put_over xs (pre ++ (x ∷ [])) old (at + 1) n (omega arith) ∙ rw (k, append_assoc))
 
 -- as many as the list has, from its first place on
-pub put_all : (xs y : List Float) → length y ≡ length xs → folded put (writing 0 y) xs ≡ writing (length xs) xs
-put_all xs y e = put_over xs [] y 0 refl e ∙ rw zero-add
+pub put_all_lem : (xs y : List Float) → length y ≡ length xs → folded put (writing 0 y) xs ≡ writing (length xs) xs
+put_all_lem xs y e = put_over xs [] y 0 refl e ∙ rw zero-add
 
 -- ---- how many there are
 
@@ -163,7 +163,7 @@ pub blocks-done : (m : Columns) (elims : List ℕ) (b s : ℕ) (out old : List F
     → folded put (writing s out) (gather (dot_block m elims) b (block_count elims)) ≡ folded put (writing 0 old) (dot_blocks m elims) → out ≡ dot_blocks m elims
 blocks-done m elims b s out old h l inv =
     ap (λ (w : Writing). w.out)
-    (fold_done put (dot_block m elims) h inv ∙ put_all (dot_blocks m elims) old (l ∙ sym (length-blocks m elims (block_count elims))))
+    (fold_done put (dot_block m elims) h inv ∙ put_all_lem (dot_blocks m elims) old (l ∙ sym (length-blocks m elims (block_count elims))))
 
 -- ---- one diagonal value
 

@@ -4,10 +4,10 @@
 use mathlib.Core.Path.{◌≡◌, refl, sym, ap, ◌∙◌}
 use mathlib.Core.Bool.{Bool, true, false, ◌&&◌, ◌||◌, cond}
 use mathlib.Core.List.{List}
-use Prim.Native.Nat.{ℕ, zero, suc, ◌+◌, ◌-◌, ◌≤◌, ◌<◌}
+use Prim.Native.Nat.{ℕ, zero, suc, ◌+◌, ◌-◌, ◌≤◌, ◌<◌, ◌^◌}
 use native.Mathlib.Nat.{le_antisymm}
 use native.Mathlib.Omega.{arith}
-use lib.Dec.{ltb, leb}
+use lib.Dec.{ltb, leb, lit<}
 use lib.ListN.{length, get_or, take, drop, length-drop}
 use lib.Seq.{get_or-take, get_or-drop, length-take-le}
 use borrow.Author.Tests.{lt-ltb, le-ltb, ltb-true, ltb-false, leb-true, leb-false}
@@ -54,13 +54,15 @@ module _ (nrows : ℕ) (rows : List ℕ) where
   pub record WalkedTo : Type 0 where
     pub at : ℕ
     pub least : ℕ
+    -- it is a number of the machine's
+    pub fits : least < 2 ^ 64
     pub inside : at ≤ length rows
     pub floor : least ≡ least_at rows at
     -- no row before is bad
     pub rest : first bad at (length rows) ≡ first bad 0 (length rows)
 
   abbrev pub walk_start : WalkedTo
-  walk_start = record { at = 0; least = 0; inside = omega arith; floor = least_first rows; rest = refl }
+  walk_start = record { at = 0; least = 0; fits = lit< tt; inside = omega arith; floor = least_first rows; rest = refl }
 
   module _ (w : WalkedTo) where
     abbrev Stops : Bool → Type 0
@@ -92,10 +94,11 @@ module _ (nrows : ℕ) (rows : List ℕ) where
     unfolding above_of
     floor_next least e s = rw (lt-ltb _ _ (walk_goes s)) at e ∙ least_next rows w.at
 
-    abbrev pub walk_turn : (least : ℕ) → least ≡ above_of (step_at rows w.at) → Stops false → WalkedTo
-    walk_turn least e s = record {
+    abbrev pub walk_turn : (least : ℕ) → least < 2 ^ 64 → least ≡ above_of (step_at rows w.at) → Stops false → WalkedTo
+    walk_turn least f e s = record {
       at = w.at + 1;
       least = least;
+      fits = f;
       inside = omega (arith, walk_goes s);
       floor = floor_next least e s;
       rest = first_turn bad (walk_goes s) w.rest (row-there false (walk_goes s) s);
@@ -139,13 +142,13 @@ module _ (nrows : ℕ) (rows : List ℕ) (from to : ℕ) where
     part_length : length part ≡ to - from
     part_length = length-take-le (to - from) (drop from rows) (rw (length-drop from rows) (omega (arith, run.order, run.inside)))
 
-    pub place_of : from + k ≡ first (row_bad nrows rows from) from to
+    pub place_of_lem : from + k ≡ first (row_bad nrows rows from) from to
     unfolding first
-    place_of =
+    place_of_lem =
         let z : from + 0 ≡ from = omega arith in
         let y : to - from - 0 ≡ to - from = omega arith in
         rw (e, part_length, y)
         (rw z at (first_n_shift (row_bad nrows part 0) (row_bad nrows rows from) from (to - from) 0 (λ i l h. part_bad i (omega arith))))
 
-    pub place_in : from + k ≤ to
-    place_in = rw place_of (first-high (row_bad nrows rows from) from to run.order)
+    pub place_in_lem : from + k ≤ to
+    place_in_lem = rw place_of_lem (first-high (row_bad nrows rows from) from to run.order)

@@ -1,5 +1,5 @@
 -- What the code's steps show of the definitions of specs/: a lemma for each way that a function returns, over plain variables, whose premises
--- are what its calls and tests give. `search rules` then closes the needs. Assumes nothing.
+-- are what its calls and tests give. `search rules` then closes the goals. Assumes nothing.
 use mathlib.Core.Path.{◌≡◌, refl, sym}
 use mathlib.Core.Bool.{true, false}
 use mathlib.Core.List.{List}
@@ -59,8 +59,8 @@ module _ (sign : Sign) (rows : List ℕ) (values : List Float) (x : Float) (lo h
   swept z t e = rw t e
 
 -- what a `requires` says of each place, at one place, where the rows are as many as they were
-pub entry_at : {rows : List ℕ} {nvalues lo hi n k p : ℕ} → EntriesFit rows nvalues n lo hi → k ≡ n → lo ≤ p → p < hi → EntryFits rows nvalues k p
-entry_at {p = p} r e h l = rw e (r.each p h l)
+pub entry_at_lem : {rows : List ℕ} {nvalues lo hi n k p : ℕ} → EntriesFit rows nvalues n lo hi → k ≡ n → lo ≤ p → p < hi → EntryFits rows nvalues k p
+entry_at_lem {p = p} r e h l = rw e (r.each p h l)
 
 -- ---- one column: lo and hi are its places as the code read them
 
@@ -107,7 +107,7 @@ pub ruleset rules = (
   squares,
   skipped,
   swept,
-  entry_at,
+  entry_at_lem,
   run_fits,
   run-gathered,
   run-squared,

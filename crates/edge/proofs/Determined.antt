@@ -1,4 +1,4 @@
--- Any two outcomes that the promise of an export, or of a crossing, permits agree: the number, its two values and every buffer. `Post` is the
+-- Any two outcomes that the promise of a call that crosses, or of a crossing, permits agree: the number, its two values and every buffer. `Post` is the
 -- contract's own reading, at the arguments a, the result and the parameters at exit. Assumes nothing.
 use mathlib.Core.Path.{◌≡◌, refl}
 use mathlib.Core.List.{List}

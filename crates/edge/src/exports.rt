@@ -1,4 +1,4 @@
-// The three calls that the host makes each night, one export a call: it passes the call on and carries its answer across.
+// The three calls that the host makes each night, a function for each: it passes the call on and carries its answer across.
 // Every pointer is valid for its length, and what a call may change overlaps nothing else that it is lent: the proofs assume it.
 ghost use Rattle.std.specs.Prelude.{◌≡◌};
 ghost use Rattle.columns.specs.Columns.{columns_of};

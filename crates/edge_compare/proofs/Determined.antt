@@ -1,5 +1,5 @@
--- Any two outcomes that an export's promise permits agree: the number, its two values and every buffer. `Post` is the contract's own reading, at the
--- arguments a, the result and the parameters at exit. Assumes nothing.
+-- Any two outcomes that the promise of a call that crosses permits agree: the number, its two values and every buffer. `Post` is the
+-- contract's own reading, at the arguments a, the result and the parameters at exit. Assumes nothing.
 use mathlib.Core.Path.{◌≡◌, refl}
 use mathlib.Core.List.{List}
 use Prim.Native.Nat.{ℕ}

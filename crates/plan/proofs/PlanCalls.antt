@@ -39,7 +39,7 @@ use Rattle.plan.specs.RoomCheck.{RoomFits}
 use Rattle.plan.specs.ColumnLists.{ColumnsFit, Counted, columns_listed, blocks_listed}
 use Rattle.plan.proofs.ChunkLaws.{chunk_passes}
 use Rattle.plan.proofs.OwnerCalls.{parted-side, owners_in, owners-values, left_pass, left-refused}
-use Rattle.plan.proofs.RowCalls.{lists-fit, lists_of}
+use Rattle.plan.proofs.RowCalls.{lists-fit, lists_of_lem}
 use Rattle.plan.proofs.EntryLaws.{side-entries}
 use Rattle.plan.proofs.VisibleCalls.{visible-fits, visible-lists_of}
 use Rattle.plan.proofs.SpanCalls.{pattern_spans, spanned_same, side-fit}
@@ -294,7 +294,7 @@ module _ (m : Columns) (kept elims : List ℕ) (len : ℕ) (b : Buffers) where
 
   pub rows-listed : (owners' : List ℕ) (l : Listed) → owners' ≡ owner_list m elims ++ drop m.nrows b.owners
       → l ≡ listed (rows_with owners' m.nrows) (block_count elims) b.row_lists.list b.row_lists.starts → l ≡ listed (rows_of m elims) (block_count elims) b.row_lists.list b.row_lists.starts
-  rows-listed owners' l e q = q ∙ rw e (lists_of m elims (drop m.nrows b.owners) (block_count elims) b.row_lists.list b.row_lists.starts)
+  rows-listed owners' l e q = q ∙ rw e (lists_of_lem m elims (drop m.nrows b.owners) (block_count elims) b.row_lists.list b.row_lists.starts)
 
   pub plan_of_lem : (z : Buffers) → z.map ≡ list_of (place_of (claims (column_count m) kept elims)) (column_count m) ++ drop (column_count m) b.map → z.kept_cols ≡ cols kept ++ drop (side_dof kept) b.kept_cols
       → z.elims_cols ≡ cols elims ++ drop (side_dof elims) b.elims_cols → z.elims_blocks ≡ column_blocks elims ++ drop (side_dof elims) b.elims_blocks

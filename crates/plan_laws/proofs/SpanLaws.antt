@@ -87,7 +87,7 @@ module _ (m : Columns) (cs : List ℕ) (n len : ℕ) (h : Chunked m.nrows len) (
       record {
         some = past_after (place_in m len c) a (b - a) s low (omega (arith, low, before)) here;
         inside = λ p u v. (record { column = g; low = omega (arith, low); high = omega (arith, top) }, between p u v);
-        whole = λ p e q. (first_of p e q, past_after (place_in m len c) a (b - a) p e.low (omega (arith, e.high)) q);
+        whole = λ p e q. (first_of_lem p e q, past_after (place_in m len c) a (b - a) p e.low (omega (arith, e.high)) q);
       }
     where
       a : ℕ
@@ -126,8 +126,8 @@ module _ (m : Columns) (cs : List ℕ) (n len : ℕ) (h : Chunked m.nrows len) (
             place-rises m.rows len a b r p (e - 1) (omega (arith, low)) (omega arith) (omega (arith, top)),
           ))
 
-      first_of : (p : ℕ) → EntryIn m cs n l p → place_in m len c p ≡ true → s ≤ p
-      first_of p e q = go (dec_lt p s)
+      first_of_lem : (p : ℕ) → EntryIn m cs n l p → place_in m len c p ≡ true → s ≤ p
+      first_of_lem p e q = go (dec_lt p s)
         where
           go : Dec (p < s) → s ≤ p
           go (yes w) = absurd (let z : ◌≡◌ {A = ℕ} 0 1 = cc (first-before (place_in m len c) a b p e.low w, q) in omega arith)

@@ -13,7 +13,7 @@ use Rattle.blocks.specs.Sides.{block_count, dof_of, offset_of, side_dof}
 use Rattle.blocks.specs.Access.{squares_before, entry_place}
 use Rattle.blocks.specs.BlockValues.{Writing, writing, put}
 use Rattle.blocks.proofs.AccessRules.{in_square, squares_first}
-use Rattle.blocks.proofs.ValueRules.{put_all, squares_within}
+use Rattle.blocks.proofs.ValueRules.{put_all_lem, squares_within}
 use Rattle.products.specs.SideSums.{inverse_term, inverse_entry, inverse_block, inverse_times}
 use Rattle.products.specs.SideFits.{block_term, block_row, RowFits, TermFits, RowsFit, InversesFit}
 use Rattle.plan.proofs.ColumnRules.{first-place}
@@ -105,7 +105,7 @@ module _ (elims : List ℕ) (inverses t : List Float) where
   pub inverses-done : (b at : ℕ) (out old : List Float) → block_count elims ≤ b → length old ≡ side_dof elims
       → folded put (writing at out) (gather (inverse_block elims inverses t) b (block_count elims)) ≡ folded put (writing 0 old) (inverse_times elims inverses t) → out ≡ inverse_times elims inverses t
   inverses-done b at out old h l inv =
-      ap (λ (w : Writing). w.out) (fold_done put (inverse_block elims inverses t) h inv ∙ put_all (inverse_times elims inverses t) old (l ∙ sym length-times))
+      ap (λ (w : Writing). w.out) (fold_done put (inverse_block elims inverses t) h inv ∙ put_all_lem (inverse_times elims inverses t) old (l ∙ sym length-times))
 
 module _ (elims : List ℕ) (b from at dof : ℕ) (q : from ≡ squares_before elims b) (s : at ≡ offset_of elims b) (d : dof ≡ dof_of elims b) (l : b < block_count elims) where
   pub rows_fit : (i t n k : ℕ) → InversesFit elims i t n → k ≡ n → RowsFit i t dof from at k

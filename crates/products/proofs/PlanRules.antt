@@ -256,8 +256,8 @@ pub pass_ends : (bad : ℕ → Bool) {k hi z : ℕ} → hi ≤ k → first bad k
 pass_ends bad {k} {hi} h inv = sym (first_none bad k hi h) ∙ inv
 
 module _ (n : ℕ) (lo hi : List ℕ) (at last : ℕ) (r : EntriesThere n lo hi at last) where
-  pub run_at : (k : ℕ) → at ≤ k → k < last → RunThere n (get_or lo k 0) (get_or hi k 0)
-  run_at k l h = r.each k l h
+  pub run_at_lem : (k : ℕ) → at ≤ k → k < last → RunThere n (get_or lo k 0) (get_or hi k 0)
+  run_at_lem k l h = r.each k l h
 
   pub run_read : (k a b : ℕ) → at ≤ k → k < last → a ≡ get_or lo k 0 → b ≡ get_or hi k 0 → RunThere n a b
   run_read k a b l h e f = rw (e, f) (r.each k l h)
@@ -517,7 +517,7 @@ pub ruleset planning = (
   few-low,
   few_later,
   few_goes,
-  run_at,
+  run_at_lem,
   run_read,
   runs_later,
   narrow_more,
