@@ -17,4 +17,4 @@ overflow_sub-result c =
 
 pub returns : goal.returns
 returns c =
-    record { value = rw c.wide.ensures.value; upper_bound = omega (arith, held_high _ _ _ c.requires.held, c.wide.ensures.value, c.shared_slice_known-1.given (c.args.b + c.args.b + 1)) }
+    record { value = rw c.wide.ensures.value; upper_bound = omega (arith, held_high _ _ _ c.requires.held, c.wide.ensures.value, c.type_inv.side (c.args.b + c.args.b + 1)) }

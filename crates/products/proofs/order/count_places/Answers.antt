@@ -25,7 +25,7 @@ bounds-progress-c c =
 
 pub overflow_add-progress : goal.overflow_add-progress
 overflow_add-progress c =
-    omega (arith, next_more c.args.starts.now c.loop-i.progress _ c.has_next.result c.has_next.ensures (ap not c.if-not-has_next.false) (omega (arith, c.shared_slice_known-1.given (c.wide-c.result + 1))))
+    omega (arith, next_more c.args.starts.now c.loop-i.progress _ c.has_next.result c.has_next.ensures (ap not c.if-not-has_next.false) (omega (arith, c.type_inv.starts (c.wide-c.result + 1))))
 
 pub bounds-progress-c-in-loop-i : goal.bounds-progress-c-in-loop-i
 bounds-progress-c-in-loop-i c =

@@ -18,7 +18,7 @@ do_span-requires c =
 
 pub overflow_add-progress : goal.overflow_add-progress
 overflow_add-progress c =
-    omega (arith, step_more c.args.rows.now (length c.args.values.now) (length c.args.v.now) (length c.args.y.now) (record { starts = c.args.starts.now; lo = c.args.lo.now; hi = c.args.hi.now; local = c.args.local.now }) c.args.progress.now c.args.chunk c.requires (omega (arith, c.shared_slice_known-4-1.given (c.args.chunk + 1))))
+    omega (arith, step_more c.args.rows.now (length c.args.values.now) (length c.args.v.now) (length c.args.y.now) (record { starts = c.args.starts.now; lo = c.args.lo.now; hi = c.args.hi.now; local = c.args.local.now }) c.args.progress.now c.args.chunk c.requires (omega (arith, c.type_inv.starts (c.args.chunk + 1))))
 
 pub returns : goal.returns
 returns c =
