@@ -29,7 +29,7 @@ use Rattle.edge_compare.proofs.product_exports.pivotfern_step.Reads as step-read
 use Rattle.edge_compare.proofs.product_exports.pivotfern_sweep.Reads as sweep-reads
 
 -- what a lookup gives
-pub looked_determined : (w : Looked) → Determined (λ (o : ℕ × ℕ × ℕ). looked o.0 o.1 o.2 ≡ w)
+looked_determined : (w : Looked) → Determined (λ (o : ℕ × ℕ × ℕ). looked o.0 o.1 o.2 ≡ w)
 looked_determined = by_equation (λ (o : ℕ × ℕ × ℕ). looked o.0 o.1 o.2) (λ (w : Looked). (w.kind, w.first, w.second)) (λ o. refl)
 
 pub check_columns : (κs : Lfts 5) (a : _) (s t : _) (p q : ℕ) → check-columns-reads.Post κs a p s → check-columns-reads.Post κs a q t → ◌≡◌ {A = ℕ × ℕ × ℕ} (p, s.1.1.1.1.0.now, s.1.1.1.1.1.0.now) (q, t.1.1.1.1.0.now, t.1.1.1.1.1.0.now)
