@@ -11,7 +11,7 @@ use lib.Dec.{ltb}
 use borrow.Author.Tests.{lt-ltb, leb-true}
 use lib.Ieee.{Float, nan}
 use Rattle.ground.proofs.TestLaws.{and_true}
-use Rattle.blocks.specs.declared.eliminated_blocks.Entry.TheVariants as entry
+use Rattle.std.specs.Prelude.{Some}
 use Rattle.blocks.specs.Sides.{dof_of}
 use Rattle.blocks.specs.Lookups.{asked}
 use Rattle.blocks.specs.Access.{square_of, squares_before, reaches, block_place, block_part, entry_place, entry_in_of}
@@ -36,7 +36,7 @@ module _ (values : List Float) (elims : List ℕ) (b : ℕ) where
     unfolding block_part block_place
     part_at_lem i h = rw (full, get_or-take, get_or-drop)
 
-    pub entry-part : (r c : ℕ) → r < dof_of elims b → c < dof_of elims b → entry_in_of values elims b r c ≡ entry.Value (get_or (block_part values elims b) (entry_place elims b r c) nan)
+    pub entry-part : (r c : ℕ) → r < dof_of elims b → c < dof_of elims b → entry_in_of values elims b r c ≡ Some (get_or (block_part values elims b) (entry_place elims b r c) nan)
     unfolding entry_in_of
     entry-part r c h l = rw (full, lt-ltb r (dof_of elims b) h, lt-ltb c (dof_of elims b) l, part_at_lem (entry_place elims b r c) (entry-inside elims b r c h l))
 

@@ -12,10 +12,8 @@ use lib.Ieee.{Float, nan}
 use borrow.Author.Tests.{lt-ltb, le-ltb, le-leb, lt-leb, ltb-true, leb-true, leb-false}
 use Rattle.ground.proofs.TestLaws.{and_true}
 use Rattle.blocks.specs.Sides.{dof_of}
-use Rattle.blocks.specs.declared.partition.Number.{Number}
-use Rattle.blocks.specs.declared.partition.Number.TheVariants.{Is, Nothing}
+use Rattle.std.specs.Prelude.{Option, Some, None}
 use Rattle.blocks.specs.declared.eliminated_blocks.Place.{Place}
-use Rattle.blocks.specs.declared.eliminated_blocks.Entry.TheVariants as entry
 use Rattle.blocks.specs.Lookups.{asked, BlockThere}
 use Rattle.blocks.specs.Access.{square_of, squares_before, up_to, reaches, block_place, block_part, dof_in, entry_place, entry_in_of}
 use Rattle.blocks.proofs.LookupRules.{block-there, lookups}
@@ -42,7 +40,7 @@ squares_rise elims k (suc n) = rw add-suc (omega (arith, squares_rise elims k n)
 
 -- the sum is stopped at block k, since it would pass `most`
 pub squares_stop : (elims : List ℕ) (b most k s q : ℕ) → k < b → s ≤ most → s ≡ squares_before elims k → q ≡ square_of elims k → most - s < q
-    → Nothing ≡ up_to most (squares_before elims b)
+    → None ≡ up_to most (squares_before elims b)
 unfolding up_to
 squares_stop elims b most k s q l h e f p =
     let n : squares_before elims (k + 1) ≡ s + q = sym (squares_next elims k s q e f) in
@@ -50,23 +48,23 @@ squares_stop elims b most k s q l h e f p =
     let r : squares_before elims (k + 1) ≤ squares_before elims b = rw u at (squares_rise elims (k + 1) (b - (k + 1))) in
     rw (lt-leb (squares_before elims b) most (omega arith))
 
-pub squares_all : (elims : List ℕ) (b most k s : ℕ) → k ≤ b → b ≤ k → s ≤ most → s ≡ squares_before elims k → Is s ≡ up_to most (squares_before elims b)
+pub squares_all : (elims : List ℕ) (b most k s : ℕ) → k ≤ b → b ≤ k → s ≤ most → s ≡ squares_before elims k → Some s ≡ up_to most (squares_before elims b)
 unfolding up_to
 squares_all elims b most k s l h m e = let q : k ≡ b = le_antisymm l h in rw (← q, ← e, le-leb s most m)
 
-pub up-to_none : (most sum : ℕ) (a : Number) → a ≡ up_to most sum → a ≡ Nothing → most < sum
+pub up-to_none : (most sum : ℕ) (a : Option ℕ) → a ≡ up_to most sum → a ≡ None → most < sum
 unfolding up_to
 up-to_none most sum a e p = go (leb sum most) refl (sym p ∙ e)
   where
-    go : (b : Bool) → leb sum most ≡ b → Nothing ≡ cond b (Is sum) Nothing → most < sum
+    go : (b : Bool) → leb sum most ≡ b → None ≡ cond b (Some sum) None → most < sum
     go true t q = let z : ◌≡◌ {A = ℕ} 0 1 = cc in absurd (omega arith)
     go false t q = leb-false sum most t
 
-pub up-to-some : (most sum s : ℕ) (a : Number) → a ≡ up_to most sum → a ≡ Is s → (s ≡ sum) × (sum ≤ most)
+pub up-to-some : (most sum s : ℕ) (a : Option ℕ) → a ≡ up_to most sum → a ≡ Some s → (s ≡ sum) × (sum ≤ most)
 unfolding up_to
 up-to-some most sum s a e p = go (leb sum most) refl (sym p ∙ e)
   where
-    go : (b : Bool) → leb sum most ≡ b → Is s ≡ cond b (Is sum) Nothing → (s ≡ sum) × (sum ≤ most)
+    go : (b : Bool) → leb sum most ≡ b → Some s ≡ cond b (Some sum) None → (s ≡ sum) × (sum ≤ most)
     go true t q = (cc, leb-true sum most t)
     go false t q = let z : ◌≡◌ {A = ℕ} 0 1 = cc in absurd (omega arith)
 
@@ -84,14 +82,14 @@ module _ (n : ℕ) (elims : List ℕ) (b m : ℕ) (e : m ≡ asked elims) where
   unfolding block_place reaches
   place-past l = rw (← e, le-ltb b m l)
 
-  module _ (a : Number) (l : b < m) (f : a ≡ up_to n (squares_before elims b)) where
-    pub place_none : a ≡ Nothing → empty ≡ block_place n elims b
+  module _ (a : Option ℕ) (l : b < m) (f : a ≡ up_to n (squares_before elims b)) where
+    pub place_none : a ≡ None → empty ≡ block_place n elims b
     unfolding block_place reaches
     place_none p =
         let h : n < squares_before elims b = up-to_none n (squares_before elims b) a f p in
         rw (← e, lt-ltb b m l, lt-leb (squares_before elims b + square_of elims b) n (omega arith))
 
-    module _ (s q : ℕ) (p : a ≡ Is s) (g : q ≡ square_of elims b) where
+    module _ (s q : ℕ) (p : a ≡ Some s) (g : q ≡ square_of elims b) where
       pub start_fits : s ≤ n
       start_fits = let r = up-to-some n (squares_before elims b) s a f p in rw r.0 r.1
 
@@ -132,11 +130,11 @@ part-is values elims b p e = let u : p.start + p.length - p.start ≡ p.length =
 -- ---- a block's dof
 
 module _ (elims : List ℕ) (b m : ℕ) (e : m ≡ asked elims) where
-  pub dof_found : (d : ℕ) → b < m → d ≡ dof_of elims b → Is d ≡ dof_in elims b
+  pub dof_found : (d : ℕ) → b < m → d ≡ dof_of elims b → Some d ≡ dof_in elims b
   unfolding dof_in
   dof_found d l p = rw (p, ← e, lt-ltb b m l)
 
-  pub dof_none : m ≤ b → Nothing ≡ dof_in elims b
+  pub dof_none : m ≤ b → None ≡ dof_in elims b
   unfolding dof_in
   dof_none l = rw (← e, le-ltb b m l)
 
@@ -162,22 +160,22 @@ module _ (values : List Float) (elims : List ℕ) (b : ℕ) (p : Place) (e : p �
 
   module _ (r c : ℕ) where
     -- a block without values has no rows
-    pub entry_empty : p.length ≡ 0 → entry.Nothing ≡ entry_in_of values elims b r c
+    pub entry_empty : p.length ≡ 0 → None ≡ entry_in_of values elims b r c
     unfolding entry_in_of block_place square_of
     entry_empty z = go (reaches (length values) elims b) e
       where
         go : (t : Bool) → p ≡ cond t (record { start = squares_before elims b; length = square_of elims b }) empty
-            → entry.Nothing
-            ≡ cond (t && (ltb r (dof_of elims b) && ltb c (dof_of elims b))) (entry.Value (get_or values (squares_before elims b + entry_place elims b r c) nan)) entry.Nothing
+            → None
+            ≡ cond (t && (ltb r (dof_of elims b) && ltb c (dof_of elims b))) (Some (get_or values (squares_before elims b + entry_place elims b r c) nan)) None
         go true q = let u : dof_of elims b ≡ 0 = no_square (dof_of elims b) (sym (ap (λ (x : Place). x.length) q) ∙ z) in rw (u, le-ltb r 0 (omega arith))
         go false q = refl
 
     module _ (d : ℕ) (h : p.length ≡ 0 → ⊥) (f : d ≡ dof_of elims b) where
-      pub entry_row : d ≤ r → entry.Nothing ≡ entry_in_of values elims b r c
+      pub entry_row : d ≤ r → None ≡ entry_in_of values elims b r c
       unfolding entry_in_of
       entry_row l = rw (← f, le-ltb r d l, (place-full h).0)
 
-      pub entry-column : r < d → d ≤ c → entry.Nothing ≡ entry_in_of values elims b r c
+      pub entry-column : r < d → d ≤ c → None ≡ entry_in_of values elims b r c
       unfolding entry_in_of
       entry-column k l = rw (← f, lt-ltb r d k, le-ltb c d l, (place-full h).0)
 
@@ -187,7 +185,7 @@ module _ (values : List Float) (elims : List ℕ) (b : ℕ) (p : Place) (e : p �
           let q : p.length ≡ d * d = rw f (place-full h).2 in
           omega (arith, in_square d r c k l, place_in_lem (length values) elims b p e)
 
-      pub entry_value : r < d → c < d → entry.Value (get_or values (p.start + (c * d + r)) nan) ≡ entry_in_of values elims b r c
+      pub entry_value : r < d → c < d → Some (get_or values (p.start + (c * d + r)) nan) ≡ entry_in_of values elims b r c
       unfolding entry_in_of entry_place
       entry_value k l = rw ((place-full h).1, ← f, lt-ltb r d k, lt-ltb c d l, (place-full h).0)
 

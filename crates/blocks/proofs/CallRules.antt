@@ -14,9 +14,10 @@ use Rattle.columns.proofs.CheckLaws.{passes_keeps}
 use Rattle.blocks.specs.Claims.{lists_told, empty_side, parts_told, early_told, claims, blocks_told, map_left, Mapped, check_blocks}
 use Rattle.blocks.specs.Walk.{Roomy, walk_blocks}
 
-pub parts_told_lem : (m : Columns) (kept elims : List ℕ) (columns sides lists empty rest later t : Told) → columns ≡ checked m → sides ≡ lists_told kept elims → lists ≡ sooner columns sides
-    → empty ≡ empty_side kept elims → later ≡ or_else empty rest → t ≡ or_else lists later → t ≡ parts_told m kept elims rest
-parts_told_lem m kept elims columns sides lists empty rest later t c s l e o q = q ∙ rw (o, l, c, s, e)
+-- the first two checks, side by side
+pub lists_first : (m : Columns) (kept elims : List ℕ) (columns sides lists : Told) → columns ≡ checked m → sides ≡ lists_told kept elims → lists ≡ sooner columns sides
+    → lists ≡ sooner (checked m) (lists_told kept elims)
+lists_first m kept elims columns sides lists c s l = l ∙ rw (c, s)
 
 pub early_told_lem : (m : Columns) (kept elims map : List ℕ) (room t : Told) → room ≡ no_room_of (length map ∷ column_count m ∷ []) → t ≡ parts_told m kept elims room → t ≡ early_told m kept elims map
 unfolding early_told

@@ -7,7 +7,7 @@ use lib.ListN.{replicate}
 use Rattle.ground.specs.First.{first_n, first}
 use Rattle.ground.specs.Gather.{gather_n, gather}
 use Rattle.columns.specs.Refusals.{Told, tell, done, on_pass}
-use Rattle.columns.specs.Lengths.{pair_bad, pairs_told}
+use Rattle.columns.specs.Lengths.{misfits, pair_bad, pairs_told}
 use Rattle.columns.specs.Columns.{Columns, columns_of, first_in, end_in, too_big, falls, bad_shape, row_bad, row_falls, column_bad, bad_row, checked}
 use Rattle.blocks.specs.Sides.{block_columns}
 use Rattle.blocks.specs.Claims.{
@@ -82,5 +82,5 @@ pub worked : map run cases
     ∷ left (tell 9 (1 ∷ [])) all_marked
     ∷ left done (0 ∷ 1 ∷ 2 ∷ 7 ∷ [])
     ∷ []
-unfolding first_n first gather_n gather on_pass pair_bad pairs_told first_in end_in too_big falls bad_shape row_bad row_falls column_bad bad_row checked block_columns too_many is_odd lists_told empty_side early_told block_claims place_of claim_bad walk_told gap_told blocks_told map_left check_blocks
+unfolding first_n first gather_n gather on_pass pair_bad misfits pairs_told first_in end_in too_big falls bad_shape row_bad row_falls column_bad bad_row checked block_columns too_many is_odd lists_told empty_side early_told block_claims place_of claim_bad walk_told gap_told blocks_told map_left check_blocks
 worked = refl

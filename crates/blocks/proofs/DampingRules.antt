@@ -7,12 +7,11 @@ use borrow.Author.Rules.{rules}
 use borrow.Author.Tests.{eq-eqb}
 use lib.Ieee.{Float, nan, inf, fin, up, down, binary64, mul, lt, ne, is_nan, of_bits, of_int}
 use Rattle.columns.specs.declared.refusal.Refusal.{Refusal}
-use Rattle.columns.specs.declared.refusal.Answer.{Answer}
-use Rattle.columns.specs.declared.refusal.Answer.TheVariants.{Done, Refused}
+use Rattle.columns.specs.Refusals.{Answer}
+use Rattle.std.specs.Prelude.{Ok, Err}
 use Rattle.columns.specs.Refusals.{tell, done, refused, told, on_pass}
 use Rattle.columns.proofs.RefusalLaws.{pass_refused}
 use Rattle.blocks.specs.declared.damping.Damping.{Damping}
-use Rattle.blocks.specs.declared.damping.DiagonalTerm.TheVariants as term
 use Rattle.blocks.specs.Damping.{one, bad_damping, damping_told, clamped, term_of, termed, diagonal_term}
 
 pub is_one : of_bits binary64 4_607_182_418_800_017_408 ≡ one
@@ -67,11 +66,11 @@ module _ (d : Damping) where
     unfolding term_of
     term_is y e = rw e
 
-    pub term-refused : (a : Answer) (r : Refusal) → told a ≡ damping_told d → a ≡ Refused r → termed (term.Refused r) ≡ diagonal_term d x
+    pub term-refused : (a : Answer) (r : Refusal) → told a ≡ damping_told d → a ≡ Err r → termed (Err r) ≡ diagonal_term d x
     unfolding diagonal_term
     term-refused a r e p = let q : refused r ≡ damping_told d = rw p at e in rw (← q, pass_refused r (term_of d x ∷ []) [])
 
-    pub term-done : (a : Answer) (y : Float) → told a ≡ damping_told d → a ≡ Done → y ≡ term_of d x → termed (term.Term y) ≡ diagonal_term d x
+    pub term-done : (a : Answer) (y : Float) → told a ≡ damping_told d → a ≡ Ok tt → y ≡ term_of d x → termed (Ok y) ≡ diagonal_term d x
     unfolding diagonal_term on_pass
     term-done a y e p f = let q : done ≡ damping_told d = rw p at e in rw (← q, f)
 

@@ -2,6 +2,7 @@
 -- proofs of the functions.
 pub mod PlaceLaws
 pub mod SideLaws
+pub mod BlockListLaws
 pub mod WalkRules
 pub mod WalkLaws
 pub mod CallRules

@@ -13,10 +13,7 @@ use Rattle.ground.specs.First.{first, None}
 use Rattle.ground.proofs.FirstLaws.{first-before, first_bad, past_none, none_past}
 use Rattle.blocks.specs.Sides.{block_count, first_of, dof_of, cols, offset_of, side_dof}
 use Rattle.blocks.specs.Claims.{too_many, place_of}
-use Rattle.blocks.specs.declared.partition.Number.{Number}
-use Rattle.blocks.specs.declared.partition.Number.TheVariants.{Is, Nothing}
-use Rattle.blocks.specs.declared.partition.Within.{Within}
-use Rattle.blocks.specs.declared.partition.Within.TheVariants as within
+use Rattle.std.specs.Prelude.{Option, Some, None as Nothing}
 use Rattle.blocks.specs.Lookups.{asked, holds, holder, in_block, local_in, within_in}
 use Rattle.blocks.proofs.PlaceLaws.{place_is, place_none}
 use Rattle.blocks.proofs.SideLaws.{cols-length, offset-next, cols-at, LocalOf, cols_from}
@@ -87,13 +84,13 @@ module _ (side : List ℕ) (column : ℕ) (few : too_many side ≡ false) where
       at p r e = clash (sym (holds_at p r e).1 ∙ none r.block (omega arith) r.has.block)
 
   -- what a lookup answers, said of the list alone
-  pub local-is : local_in side column ≡ cond (ltb (place_of (cols side) column) (length (cols side))) (Is (place_of (cols side) column)) Nothing
+  pub local-is : local_in side column ≡ cond (ltb (place_of (cols side) column) (length (cols side))) (Some (place_of (cols side) column)) Nothing
   unfolding local_in
   local-is = go (ltb (holder side column) (asked side)) refl
     where
       go : (b : Bool) → ltb (holder side column) (asked side) ≡ b
-          → cond b (Is (offset_of side (holder side column) + in_block side column)) Nothing
-          ≡ cond (ltb (place_of (cols side) column) (length (cols side))) (Is (place_of (cols side) column)) Nothing
+          → cond b (Some (offset_of side (holder side column) + in_block side column)) Nothing
+          ≡ cond (ltb (place_of (cols side) column) (length (cols side))) (Some (place_of (cols side) column)) Nothing
       go true e =
           let f = ltb-true _ _ e in
           rw (local-place f, cols-length side, lt-ltb (offset_of side (holder side column) + in_block side column) (side_dof side) (omega (arith, inside f, offset-next side (holder side column) (block_count side) (among f))))
@@ -110,7 +107,7 @@ module _ (side : List ℕ) (column : ℕ) (few : too_many side ≡ false) where
   unfolding local_in
   local_none e = go (ltb (holder side column) (asked side)) refl e
     where
-      go : (b : Bool) → ltb (holder side column) (asked side) ≡ b → cond b (Is (offset_of side (holder side column) + in_block side column)) Nothing ≡ Nothing
+      go : (b : Bool) → ltb (holder side column) (asked side) ≡ b → cond b (Some (offset_of side (holder side column) + in_block side column)) Nothing ≡ Nothing
           → None (holds side column) 0 (block_count side)
       go true t q = let z : ◌≡◌ {A = ℕ} 0 1 = cc in absurd (omega arith)
       go false t q = rw asked-whole at (past_none (holds side column) 0 (asked side) t)
@@ -121,15 +118,15 @@ unfolding local_in asked
 many_local side column e = rw (e, le-ltb (first (holds side column) 0 0) 0 (omega arith))
 
 -- an eliminated column's block and offset are those of its local number
-unfoldable pub local_of : List ℕ → Within → Number
-local_of side (within.At block offset) = Is (offset_of side block + offset)
-local_of side within.Nothing = Nothing
+unfoldable pub local_of : List ℕ → Option (ℕ × ℕ) → Option ℕ
+local_of side (Some (block, offset)) = Some (offset_of side block + offset)
+local_of side Nothing = Nothing
 
 pub within-local : (side : List ℕ) (column : ℕ) → local_in side column ≡ local_of side (within_in side column)
 unfolding local_in within_in local_of
 within-local side column = go (ltb (holder side column) (asked side))
   where
-    go : (b : Bool) → cond b (Is (offset_of side (holder side column) + in_block side column)) Nothing
-        ≡ local_of side (cond b (within.At (holder side column) (in_block side column)) within.Nothing)
+    go : (b : Bool) → cond b (Some (offset_of side (holder side column) + in_block side column)) Nothing
+        ≡ local_of side (cond b (Some ((holder side column), (in_block side column))) Nothing)
     go true = refl
     go false = refl

@@ -8,8 +8,7 @@ use native.Mathlib.Omega.{arith}
 use lib.Dec.{ltb}
 use lib.ListN.{length, get_or}
 use borrow.Author.Tests.{lt-ltb, le-ltb, ltb-true, ltb-false}
-use Rattle.blocks.specs.declared.partition.Number.{Number}
-use Rattle.blocks.specs.declared.partition.Number.TheVariants.{Is, Nothing}
+use Rattle.std.specs.Prelude.{Option, Some, None}
 use Rattle.blocks.specs.Sides.{block_count, cols, side_dof}
 use Rattle.blocks.specs.Claims.{too_many, place_of, Parted}
 use Rattle.blocks.specs.Lookups.{local_in}
@@ -31,10 +30,10 @@ module _ (n : ℕ) (kept elims rest : List ℕ) (p : Parted n kept elims) (c : �
   at-is : at ≡ place_of (cols kept ++ cols elims) c
   at-is = map-place n kept elims rest p c h ∙ ap (λ (cs : List ℕ). place_of cs c) (parted-cols n kept elims p)
 
-  pub kept_map : local_in kept c ≡ cond (ltb at (side_dof kept)) (Is at) Nothing
+  pub kept_map : local_in kept c ≡ cond (ltb at (side_dof kept)) (Some at) None
   kept_map = local-is kept c (few kept (p.right false).few) ∙ go (ltb (place_of (cols kept) c) (length (cols kept))) refl
     where
-      go : (b : Bool) → ltb (place_of (cols kept) c) (length (cols kept)) ≡ b → cond b (Is (place_of (cols kept) c)) Nothing ≡ cond (ltb at (side_dof kept)) (Is at) Nothing
+      go : (b : Bool) → ltb (place_of (cols kept) c) (length (cols kept)) ≡ b → cond b (Some (place_of (cols kept) c)) None ≡ cond (ltb at (side_dof kept)) (Some at) None
       go true e =
           let l = ltb-true _ _ e in
           let q : at ≡ place_of (cols kept) c = at-is ∙ place-left (cols kept) (cols elims) c l in
@@ -45,13 +44,13 @@ module _ (n : ℕ) (kept elims rest : List ℕ) (p : Parted n kept elims) (c : �
           let s : side_dof kept ≤ at = rw (cols-length kept, ← at-is) at l in
           rw (le-ltb _ _ s)
 
-  pub elims-map : local_in elims c ≡ cond (ltb at (side_dof kept)) Nothing (Is (at - side_dof kept))
+  pub elims-map : local_in elims c ≡ cond (ltb at (side_dof kept)) None (Some (at - side_dof kept))
   elims-map = local-is elims c (few elims (p.right true).few) ∙ go (ltb at (side_dof kept)) refl
     where
-      local : Number
-      local = cond (ltb (place_of (cols elims) c) (length (cols elims))) (Is (place_of (cols elims) c)) Nothing
+      local : Option ℕ
+      local = cond (ltb (place_of (cols elims) c) (length (cols elims))) (Some (place_of (cols elims) c)) None
 
-      go : (b : Bool) → ltb at (side_dof kept) ≡ b → local ≡ cond b Nothing (Is (at - side_dof kept))
+      go : (b : Bool) → ltb at (side_dof kept) ≡ b → local ≡ cond b None (Some (at - side_dof kept))
       go true e =
           let l = ltb-true at (side_dof kept) e in
           let q = map_back_kept n kept elims rest p c h l in

@@ -16,10 +16,7 @@ use Rattle.ground.proofs.Rules.{searches}
 use Rattle.ground.proofs.TestLaws.{and_true}
 use Rattle.blocks.specs.Sides.{first_of, dof_of, offset_of}
 use Rattle.blocks.specs.Claims.{too_many}
-use Rattle.blocks.specs.declared.partition.Number.{Number}
-use Rattle.blocks.specs.declared.partition.Number.TheVariants.{Is, Nothing}
-use Rattle.blocks.specs.declared.partition.Within.{Within}
-use Rattle.blocks.specs.declared.partition.Within.TheVariants as within
+use Rattle.std.specs.Prelude.{Option, Some, None}
 use Rattle.blocks.specs.declared.partition.ColSlot.TheVariants as slot
 use Rattle.blocks.specs.Lookups.{asked, holds, holder, local_in, within_in, slot_of, offset_in, BlockThere, HeldBy, BlocksThere}
 
@@ -82,38 +79,38 @@ module _ (side : List ℕ) (column b n : ℕ) (e : b ≡ holder side column) (f 
       let h : first (holds side column) 0 (asked side) < asked side = rw (e, f) at l in
       record { there = (block-there side n b f l).there; held = rw e (first_bad (holds side column) 0 (asked side) h) }
 
-  pub local_found : (o i : ℕ) → b < n → o ≡ offset_of side b → i ≡ column - first_of side b → Is (o + i) ≡ local_in side column
+  pub local_found : (o i : ℕ) → b < n → o ≡ offset_of side b → i ≡ column - first_of side b → Some (o + i) ≡ local_in side column
   unfolding local_in
   local_found o i l p q = rw (← e, ← f, lt-ltb b n l, p, q)
 
   pub local_fits : b < n → b < 65_536
   local_fits l = omega (arith, (asked-few side).0)
 
-  pub local_none : n ≤ b → Nothing ≡ local_in side column
+  pub local_none : n ≤ b → None ≡ local_in side column
   unfolding local_in
   local_none l = rw (← e, ← f, le-ltb b n l)
 
-  pub within_found : (i : ℕ) → b < n → i ≡ column - first_of side b → within.At b i ≡ within_in side column
+  pub within_found : (i : ℕ) → b < n → i ≡ column - first_of side b → Some (b, i) ≡ within_in side column
   unfolding within_in
   within_found i l q = rw (← e, ← f, lt-ltb b n l, q)
 
-  pub within_none : n ≤ b → within.Nothing ≡ within_in side column
+  pub within_none : n ≤ b → None ≡ within_in side column
   unfolding within_in
   within_none l = rw (← e, ← f, le-ltb b n l)
 
 -- ---- slots
 
-module _ (kept elims : List ℕ) (column : ℕ) (a : Number) (e : a ≡ local_in kept column) where
-  pub slot_kept : (l : ℕ) → a ≡ Is l → slot.Kept l ≡ slot_of kept elims column
+module _ (kept elims : List ℕ) (column : ℕ) (a : Option ℕ) (e : a ≡ local_in kept column) where
+  pub slot_kept : (l : ℕ) → a ≡ Some l → Some (slot.Kept l) ≡ slot_of kept elims column
   unfolding slot_of
   slot_kept l p = rw (← e, p)
 
-  module _ (w : Within) (p : a ≡ Nothing) (f : w ≡ within_in elims column) where
-    pub slot_eliminated : (b i : ℕ) → w ≡ within.At b i → slot.Eliminated b i ≡ slot_of kept elims column
+  module _ (w : Option (ℕ × ℕ)) (p : a ≡ None) (f : w ≡ within_in elims column) where
+    pub slot_eliminated : (b i : ℕ) → w ≡ Some (b, i) → Some (slot.Eliminated b i) ≡ slot_of kept elims column
     unfolding slot_of
     slot_eliminated b i q = rw (← e, p, ← f, q)
 
-    pub slot_none : w ≡ within.Nothing → slot.Nothing ≡ slot_of kept elims column
+    pub slot_none : w ≡ None → None ≡ slot_of kept elims column
     unfolding slot_of
     slot_none q = rw (← e, p, ← f, q)
 
@@ -131,11 +128,11 @@ pub offset_all : (side : List ℕ) (k b s : ℕ) → k ≤ b → b ≤ k → s �
 offset_all side k b s l h e = let q : k ≡ b = le_antisymm l h in rw q at e
 
 module _ (side : List ℕ) (b n : ℕ) (e : n ≡ asked side) where
-  pub offset_found : (o : ℕ) → b < n → o ≡ offset_of side b → Is o ≡ offset_in side b
+  pub offset_found : (o : ℕ) → b < n → o ≡ offset_of side b → Some o ≡ offset_in side b
   unfolding offset_in
   offset_found o l p = rw (p, ← e, lt-ltb b n l)
 
-  pub offset_none : n ≤ b → Nothing ≡ offset_in side b
+  pub offset_none : n ≤ b → None ≡ offset_in side b
   unfolding offset_in
   offset_none l = rw (← e, le-ltb b n l)
 

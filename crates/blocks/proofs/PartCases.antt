@@ -3,7 +3,7 @@ use mathlib.Core.Path.{◌≡◌, refl}
 use mathlib.Core.List.{[], ◌∷◌, map}
 use Prim.Native.Nat.{ℕ}
 use Rattle.ground.specs.First.{first, first_n}
-use Rattle.blocks.specs.declared.partition.Number.TheVariants.{Is, Nothing}
+use Rattle.std.specs.Prelude.{Some, None}
 use Rattle.blocks.specs.declared.partition.ColSlot.TheVariants as slot
 use Rattle.blocks.specs.declared.eliminated_blocks.Place.{Place}
 use Rattle.blocks.specs.Sides.{offset_of}
@@ -13,17 +13,17 @@ use Rattle.blocks.specs.Access.{square_of, squares_before, reaches, block_place}
 
 -- kept (0, 1) and (4, 2), with an odd last number; eliminated (1, 2) and (2, 2), which overlap: the first holds column 2
 pub slots : map (slot_of (0 ∷ 1 ∷ 4 ∷ 2 ∷ 9 ∷ []) (1 ∷ 2 ∷ 2 ∷ 2 ∷ [])) (0 ∷ 2 ∷ 3 ∷ 5 ∷ 6 ∷ 9 ∷ [])
-    ≡ slot.Kept 0 ∷ slot.Eliminated 0 1 ∷ slot.Eliminated 1 1 ∷ slot.Kept 2 ∷ slot.Nothing ∷ slot.Nothing ∷ []
+    ≡ Some (slot.Kept 0) ∷ Some (slot.Eliminated 0 1) ∷ Some (slot.Eliminated 1 1) ∷ Some (slot.Kept 2) ∷ None ∷ None ∷ []
 unfolding slot_of local_in within_in asked too_many holds first first_n offset_of
 slots = refl
 
 -- a block whose last columns pass 32 bits, after one of dof 0
 pub past_words : map (local_in (7 ∷ 0 ∷ 4_294_967_295 ∷ 4_294_967_295 ∷ [])) (7 ∷ 4_294_967_294 ∷ 4_294_967_296 ∷ 8_589_934_589 ∷ 8_589_934_590 ∷ [])
-    ≡ Nothing ∷ Nothing ∷ Is 1 ∷ Is 4_294_967_294 ∷ Nothing ∷ []
+    ≡ None ∷ None ∷ Some 1 ∷ Some 4_294_967_294 ∷ None ∷ []
 unfolding local_in asked too_many holds first first_n offset_of
 past_words = refl
 
-pub offsets : map (offset_in (5 ∷ 2 ∷ 0 ∷ 3 ∷ 8 ∷ [])) (0 ∷ 1 ∷ 2 ∷ []) ≡ Is 0 ∷ Is 2 ∷ Nothing ∷ []
+pub offsets : map (offset_in (5 ∷ 2 ∷ 0 ∷ 3 ∷ 8 ∷ [])) (0 ∷ 1 ∷ 2 ∷ []) ≡ Some 0 ∷ Some 2 ∷ None ∷ []
 unfolding offset_in asked too_many offset_of
 offsets = refl
 

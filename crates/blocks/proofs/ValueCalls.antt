@@ -13,15 +13,13 @@ use lib.Ieee.{Float}
 use Rattle.ground.specs.Gather.{list_of}
 use Rattle.ground.proofs.GatherLaws.{length-list_of}
 use Rattle.columns.specs.declared.refusal.Refusal.{Refusal}
-use Rattle.columns.specs.declared.refusal.Answer.{Answer}
-use Rattle.columns.specs.declared.refusal.Answer.TheVariants.{Done, Refused}
+use Rattle.columns.specs.Refusals.{Answer}
+use Rattle.std.specs.Prelude.{Option, Some, None, Ok, Err, unwrap_or}
 use Rattle.columns.specs.Refusals.{Told, done, refused, told, Passes, on_pass, or_else}
 use Rattle.columns.specs.Lengths.{wrong_length}
 use Rattle.columns.specs.Columns.{Columns, column_count}
 use Rattle.columns.proofs.RefusalLaws.{pass_refused, pass_done, both_pass}
 use Rattle.columns.proofs.CallLaws.{lengths_right}
-use Rattle.blocks.specs.declared.partition.Number.{Number}
-use Rattle.blocks.specs.declared.partition.Number.TheVariants.{Is, Nothing}
 use Rattle.blocks.specs.Sides.{block_count, first_of, dof_of, side_of}
 use Rattle.blocks.specs.Claims.{mark, marked, place_of, claims, early_told, blocks_told, map_left, Mapped, check_blocks, BlocksKeep}
 use Rattle.blocks.specs.Access.{square_of, squares_before, up_to}
@@ -41,12 +39,11 @@ module _ (elims : List ℕ) (lim : Limited elims) where
       let q : dof_of elims b * dof_of elims b ≤ 65_536 * 65_536 = mul-le-mul d d in
       omega (arith, squares_bound b (omega arith))
 
-  pub count-is : (a : Number) (s : ℕ) → a ≡ up_to 281_474_976_710_656 (value_count elims) → a ≡ Is s → s ≡ value_count elims
-  count-is a s e p = (up-to-some 281_474_976_710_656 (value_count elims) s a e p).0
-
-  pub count_none : (a : Number) → a ≡ up_to 281_474_976_710_656 (value_count elims) → a ≡ Nothing → 0 ≡ value_count elims
-  count_none a e p =
-      absurd (omega (arith, up-to_none 281_474_976_710_656 (value_count elims) a e p, squares_bound (block_count elims) (omega arith), lim.few))
+  -- the sum is no more than that, so a default has no part in it
+  pub count_of : (a : Option ℕ) (d : ℕ) → a ≡ up_to 281_474_976_710_656 (value_count elims) → unwrap_or a d ≡ value_count elims
+  count_of (Some s) d e = (up-to-some 281_474_976_710_656 (value_count elims) s (Some s) e refl).0
+  count_of None d e =
+      absurd (omega (arith, up-to_none 281_474_976_710_656 (value_count elims) None e refl, squares_bound (block_count elims) (omega arith), lim.few))
 
 -- ---- what a pass gives
 
@@ -80,14 +77,14 @@ module _ (m : Columns) (kept elims map : List ℕ) (a : Answer) (left : List ℕ
   unfolding check_blocks
   blocks-left = ap (λ (o : Mapped). o.map) e
 
-  pub check_refused : (n : ℕ) (more : Told) (r : Refusal) → a ≡ Refused r → record { told = refused r; map = left } ≡ check_values m kept elims map n more
+  pub check_refused : (n : ℕ) (more : Told) (r : Refusal) → a ≡ Err r → record { told = refused r; map = left } ≡ check_values m kept elims map n more
   unfolding check_values values_told
   check_refused n more r p =
       let t : blocks_told m kept elims map ≡ refused r = sym blocks-told ∙ ap told p in
       let q : left ≡ map_left (refused r) m kept elims map = rw t at blocks-left in
       rw (t, pass_refused r (or_else (wrong_length (n ∷ value_count elims ∷ [])) more) (refused r), q)
 
-  module _ (p : a ≡ Done) where
+  module _ (p : a ≡ Ok tt) where
     blocks-done : blocks_told m kept elims map ≡ done
     blocks-done = sym blocks-told ∙ ap told p
 
@@ -121,14 +118,14 @@ module _ (m : Columns) (kept elims map : List ℕ) (a : Answer) (left : List ℕ
       unfolding values_told on_pass
       values-told = rw (blocks-done, ← q, ← f) h
 
-      pub later_done : l ≡ Done → record { told = done; map = left } ≡ check_values m kept elims map n (told more)
+      pub later_done : l ≡ Ok tt → record { told = done; map = left } ≡ check_values m kept elims map n (told more)
       unfolding check_values
       later_done z =
           let t : values_told m kept elims map n (told more) ≡ done = sym values-told ∙ ap told z in
           let u : left ≡ map_left done m kept elims map = rw blocks-done at blocks-left in
           rw (t, u)
 
-      pub later_refused : (r : Refusal) (c : ℕ) (end : List ℕ) → l ≡ Refused r → c ≡ column_count m → end ≡ marked c left
+      pub later_refused : (r : Refusal) (c : ℕ) (end : List ℕ) → l ≡ Err r → c ≡ column_count m → end ≡ marked c left
           → record { told = refused r; map = end } ≡ check_values m kept elims map n (told more)
       unfolding check_values map_left
       later_refused r c end z s v =
@@ -145,14 +142,14 @@ module _ (m : Columns) (kept elims map : List ℕ) (a : Answer) (left : List ℕ
 
 -- a is what `check_values` answered
 module _ (m : Columns) (kept elims map : List ℕ) (n : ℕ) (more : Told) (a : Answer) (left : List ℕ) (e : record { told = told a; map = left } ≡ check_values m kept elims map n more) where
-  pub values-refused : (r : Refusal) (new old : List Float) → a ≡ Refused r → record { told = refused r; map = left; values = old } ≡ values_left (check_values m kept elims map n more) new old
+  pub values-refused : (r : Refusal) (new old : List Float) → a ≡ Err r → record { told = refused r; map = left; values = old } ≡ values_left (check_values m kept elims map n more) new old
   values-refused r new old p = rw (← e, p, pass_refused r new old)
 
-  pub values-done : (new old next : List Float) → a ≡ Done → next ≡ new → record { told = done; map = left; values = next } ≡ values_left (check_values m kept elims map n more) new old
+  pub values-done : (new old next : List Float) → a ≡ Ok tt → next ≡ new → record { told = done; map = left; values = next } ≡ values_left (check_values m kept elims map n more) new old
   unfolding on_pass
   values-done new old next p q = rw (← e, p, q)
 
-  pub values-fit : a ≡ Done → BlocksFit m elims n
+  pub values-fit : a ≡ Ok tt → BlocksFit m elims n
   unfolding check_values values_told
   values-fit p =
       let t : Passes (values_told m kept elims map n more) = ap (λ (o : Mapped). o.told.number) (sym e) ∙ ap (λ (b : Answer). (told b).number) p in

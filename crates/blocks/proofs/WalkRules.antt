@@ -7,10 +7,10 @@ use mathlib.Core.List.{List, [], ◌∷◌, ◌++◌}
 use Prim.Native.Nat.{ℕ, zero, suc, ◌+◌, ◌≤◌, ◌<◌}
 use native.Mathlib.Nat.{le_of_suc-le-suc, not-suc-le-zero}
 use native.Mathlib.Omega.{arith}
-use lib.Dec.{eqb, leb}
-use lib.ListN.{length, get_or, take, drop, set, replicate, length-set, length-take, drop_of_length-le}
+use lib.Dec.{eqb, leb, ltb}
+use lib.ListN.{length, get_or, take, drop, set, replicate, length-set, drop_of_length-le}
 use lib.Seq.{take-set-lt, drop-set-lt, get_or-take, length-take-le, take_all, take-length, drop-length}
-use borrow.Author.Tests.{le-leb, lt-leb, eq-eqb, ne_eqb, leb-false, eqb-true, eqb-false}
+use borrow.Author.Tests.{lt-ltb, le-ltb, ltb-true, ltb-false, le-leb, lt-leb, eq-eqb, ne_eqb, leb-false, eqb-true, eqb-false}
 use Rattle.ground.specs.Gather.{gather}
 use Rattle.ground.specs.Fold.{folded}
 use Rattle.ground.proofs.FoldLaws.{folded-one, folded_append, folded_keeps, fold_turn}
@@ -20,7 +20,9 @@ use Rattle.columns.specs.Refusals.{tell, refused, Passes, on_pass}
 use Rattle.columns.proofs.RefusalLaws.{number-some}
 use Rattle.blocks.specs.Sides.{first_of, dof_of, block_columns}
 use Rattle.blocks.specs.Claims.{mark, block_claims, marked}
-use Rattle.blocks.specs.Walk.{is_free_of, Walked, through, stopped, claim_on, walked, mark_count, Room}
+use Rattle.std.specs.Prelude.{Option, Some, None, min}
+use Rattle.std.proofs.lemmas.List.{drop_min, length-take}
+use Rattle.blocks.specs.Walk.{found, is_free_of, Walked, through, stopped, claim_on, walked, mark_count, Room}
 
 -- ---- the mark
 
@@ -28,10 +30,34 @@ pub marked_all : (n : ℕ) (map : List ℕ) → n ≤ length map → marked n ma
 unfolding marked
 marked_all n map h = rw (length-take-le n map h)
 
--- all of a map that has fewer places
-pub marked-short : (n : ℕ) (map m : List ℕ) → length map ≤ n → m ≡ marked (length map) map → m ≡ marked n map
+-- k places are marked, or all of a map that has fewer
+pub marked_part : (n k : ℕ) (map m : List ℕ) → k ≡ min n (length map) → m ≡ replicate k mark → m ++ drop k map ≡ marked n map
 unfolding marked
-marked-short n map m h e = e ∙ rw (take_all n map h, take-length map, drop-length map, drop_of_length-le map h)
+marked_part n k map m h e = rw (e, h, drop_min n map, length-take n map)
+
+-- a place that was looked for among the first n
+module _ (n k c : ℕ) (e : c ≡ k) where
+  pub found_at : c < n → Some c ≡ found n k
+  found_at l = rw (← e, lt-ltb c n l)
+
+  pub found_none : n ≤ c → None ≡ found n k
+  found_none l = rw (← e, le-ltb c n l)
+
+-- and what was found: o is the answer
+module _ (n k : ℕ) (o : Option ℕ) (e : o ≡ found n k) where
+  pub first_found : (c : ℕ) → o ≡ Some c → (k ≡ c) × (c < n)
+  first_found c p = go (ltb k n) refl (sym e ∙ p)
+    where
+      go : (b : Bool) → ltb k n ≡ b → cond b (Some k) None ≡ Some c → (k ≡ c) × (c < n)
+      go true t q = let h : k ≡ c = cc q in (h, rw h at (ltb-true k n t))
+      go false t q = absurd (cc q)
+
+  pub none_found : o ≡ None → n ≤ k
+  none_found p = go (ltb k n) refl (sym e ∙ p)
+    where
+      go : (b : Bool) → ltb k n ≡ b → cond b (Some k) None ≡ None → n ≤ k
+      go true t q = absurd (cc q)
+      go false t q = ltb-false k n t
 
 pub is_free : (map : List ℕ) (c : ℕ) → get_or map c 0 ≡ mark → is_free_of map c ≡ true
 unfolding is_free_of
@@ -198,4 +224,4 @@ module _ (n next : ℕ) (map m xs ys : List ℕ) where
   pub both_stopped : (r : Refusal) → stopped (refused r) m ≡ walked n (through next map) xs → stopped (refused r) m ≡ walked n (through next map) (xs ++ ys)
   both_stopped r e = sym (stopped_stays n r m ys) ∙ ap (λ (s : Walked). walked n s ys) e ∙ sym (folded_append (claim_on n) (through next map) xs ys)
 
-pub ruleset walking = (searches, is_free, is_taken)
+pub ruleset walking = (searches, found_at, found_none, is_free, is_taken)

@@ -4,11 +4,8 @@ use Rattle.std.specs.Prelude.{Bool, ◌&&◌, cond, List, ℕ, zero, suc, ◌+�
 use Rattle.std.specs.Float.{nan}
 use Rattle.blocks.specs.Sides.{dof_of}
 use Rattle.blocks.specs.Lookups.{asked}
-use Rattle.blocks.specs.declared.partition.Number.{Number}
-use Rattle.blocks.specs.declared.partition.Number.TheVariants.{Is, Nothing}
+use Rattle.std.specs.Prelude.{Option, Some, None}
 use Rattle.blocks.specs.declared.eliminated_blocks.Place.{Place}
-use Rattle.blocks.specs.declared.eliminated_blocks.Entry.{Entry}
-use Rattle.blocks.specs.declared.eliminated_blocks.Entry.TheVariants as entry
 
 -- how many values block b has
 unfoldable pub square_of : List ℕ → ℕ → ℕ
@@ -20,8 +17,8 @@ squares_before elims zero = 0
 squares_before elims (suc b) = squares_before elims b + square_of elims b
 
 -- a sum, where it is no more than `most`
-unfoldable pub up_to : ℕ → ℕ → Number
-up_to most sum = cond (leb sum most) (Is sum) Nothing
+unfoldable pub up_to : ℕ → ℕ → Option ℕ
+up_to most sum = cond (leb sum most) (Some sum) None
 
 -- there is a block b, and n values are enough to hold it
 unfoldable pub reaches : ℕ → List ℕ → ℕ → Bool
@@ -39,16 +36,16 @@ unfoldable pub block_part : List Float → List ℕ → ℕ → List Float
 block_part values elims b = part_at (block_place (length values) elims b) values
 
 -- the block's dof, or nothing where there is no block b
-unfoldable pub dof_in : List ℕ → ℕ → Number
-dof_in elims b = cond (ltb b (asked elims)) (Is (dof_of elims b)) Nothing
+unfoldable pub dof_in : List ℕ → ℕ → Option ℕ
+dof_in elims b = cond (ltb b (asked elims)) (Some (dof_of elims b)) None
 
 -- row r, column c of block b is place c·dof + r of its part
 unfoldable pub entry_place : List ℕ → ℕ → ℕ → ℕ → ℕ
 entry_place elims b r c = c * dof_of elims b + r
 
 -- that entry, or nothing where there is none
-unfoldable pub entry_in_of : List Float → List ℕ → ℕ → ℕ → ℕ → Entry
+unfoldable pub entry_in_of : List Float → List ℕ → ℕ → ℕ → ℕ → Option Float
 entry_in_of values elims b r c =
     cond (reaches (length values) elims b && (ltb r (dof_of elims b) && ltb c (dof_of elims b)))
-    (entry.Value (get_or values (squares_before elims b + entry_place elims b r c) nan))
-    entry.Nothing
+    (Some (get_or values (squares_before elims b + entry_place elims b r c) nan))
+    None

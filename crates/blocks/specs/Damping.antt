@@ -4,8 +4,8 @@ use Rattle.std.specs.Float.{binary64}
 use Rattle.std.specs.Float.Ieee.{mul, lt, is_nan, of_int}
 use Rattle.columns.specs.Refusals.{Told, tell, done, refused, on_pass}
 use Rattle.blocks.specs.declared.damping.Damping.{Damping}
-use Rattle.blocks.specs.declared.damping.DiagonalTerm.{DiagonalTerm}
-use Rattle.blocks.specs.declared.damping.DiagonalTerm.TheVariants.{Term, Refused}
+use Rattle.std.specs.Prelude.{Result, Ok, Err}
+use Rattle.columns.specs.declared.refusal.Refusal.{Refusal}
 
 abbrev pub one : Float
 one = of_int binary64 (pos 1)
@@ -34,9 +34,9 @@ pub record Termed : Type 0 where
   pub told : Told
   pub terms : List Float
 
-abbrev pub termed : DiagonalTerm → Termed
-termed (Term x) = record { told = done; terms = x ∷ [] }
-termed (Refused r) = record { told = refused r; terms = [] }
+abbrev pub termed : Result Float Refusal → Termed
+termed (Ok x) = record { told = done; terms = x ∷ [] }
+termed (Err r) = record { told = refused r; terms = [] }
 
 unfoldable pub diagonal_term : Damping → Float → Termed
 diagonal_term d x = record { told = damping_told d; terms = on_pass (damping_told d) (term_of d x ∷ []) [] }

@@ -1,5 +1,6 @@
 -- what a reader must believe
 pub mod Sides
+pub mod BlockList
 pub mod Claims
 pub mod Damping
 pub mod Lookups

@@ -3,10 +3,7 @@ use Rattle.std.specs.Prelude.{◌≡◌, Bool, true, ◌&&◌, cond, List, ℕ, 
 use Rattle.ground.specs.First.{first}
 use Rattle.blocks.specs.Sides.{block_count, first_of, dof_of, offset_of}
 use Rattle.blocks.specs.Claims.{too_many}
-use Rattle.blocks.specs.declared.partition.Number.{Number}
-use Rattle.blocks.specs.declared.partition.Number.TheVariants.{Is, Nothing}
-use Rattle.blocks.specs.declared.partition.Within.{Within}
-use Rattle.blocks.specs.declared.partition.Within.TheVariants as within
+use Rattle.std.specs.Prelude.{Option, Some, None}
 use Rattle.blocks.specs.declared.partition.ColSlot.{ColSlot}
 use Rattle.blocks.specs.declared.partition.ColSlot.TheVariants as slot
 
@@ -27,29 +24,29 @@ abbrev pub in_block : List ℕ → ℕ → ℕ
 in_block side column = column - first_of side (holder side column)
 
 -- its local number, or nothing
-unfoldable pub local_in : List ℕ → ℕ → Number
+unfoldable pub local_in : List ℕ → ℕ → Option ℕ
 local_in side column =
-    cond (ltb (holder side column) (asked side)) (Is (offset_of side (holder side column) + in_block side column)) Nothing
+    cond (ltb (holder side column) (asked side)) (Some (offset_of side (holder side column) + in_block side column)) None
 
 -- its block and its offset there, or nothing
-unfoldable pub within_in : List ℕ → ℕ → Within
-within_in side column = cond (ltb (holder side column) (asked side)) (within.At (holder side column) (in_block side column)) within.Nothing
+unfoldable pub within_in : List ℕ → ℕ → Option (ℕ × ℕ)
+within_in side column = cond (ltb (holder side column) (asked side)) (Some (holder side column, in_block side column)) None
 
 -- kept first
-abbrev pub eliminated_slot : Within → ColSlot
-eliminated_slot (within.At block offset) = slot.Eliminated block offset
-eliminated_slot within.Nothing = slot.Nothing
+abbrev pub eliminated_slot : Option (ℕ × ℕ) → Option ColSlot
+eliminated_slot (Some (block, offset)) = Some (slot.Eliminated block offset)
+eliminated_slot None = None
 
-abbrev pub kept_slot : Number → Within → ColSlot
-kept_slot (Is local) w = slot.Kept local
-kept_slot Nothing w = eliminated_slot w
+abbrev pub kept_slot : Option ℕ → Option (ℕ × ℕ) → Option ColSlot
+kept_slot (Some local) w = Some (slot.Kept local)
+kept_slot None w = eliminated_slot w
 
-unfoldable pub slot_of : List ℕ → List ℕ → ℕ → ColSlot
+unfoldable pub slot_of : List ℕ → List ℕ → ℕ → Option ColSlot
 slot_of kept elims column = kept_slot (local_in kept column) (within_in elims column)
 
 -- the local number of block b's first column, or nothing where there is no block b
-unfoldable pub offset_in : List ℕ → ℕ → Number
-offset_in side b = cond (ltb b (asked side)) (Is (offset_of side b)) Nothing
+unfoldable pub offset_in : List ℕ → ℕ → Option ℕ
+offset_in side b = cond (ltb b (asked side)) (Some (offset_of side b)) None
 
 -- ---- what the functions that ask no more need
 

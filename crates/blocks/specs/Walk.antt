@@ -5,12 +5,16 @@ use Rattle.std.specs.Prelude.{take, drop, set, replicate}
 use Rattle.ground.specs.Fold.{folded}
 use Rattle.ground.specs.Gather.{list_of}
 use Rattle.columns.specs.Refusals.{Told, tell, done, refused, Passes, on_pass}
-use Rattle.blocks.specs.declared.check.Walk.{Walk}
-use Rattle.blocks.specs.declared.check.Walk.TheVariants.{Through, Stopped}
+use Rattle.std.specs.Prelude.{Result, Ok, Err, Option, Some, None, ltb}
+use Rattle.columns.specs.declared.refusal.Refusal.{Refusal}
 use Rattle.blocks.specs.Claims.{late_told, mark, place_of, Mapped}
 
 unfoldable pub is_free_of : List ℕ → ℕ → Bool
 is_free_of map c = eqb (get_or map c 0) mark
+
+-- a place that was looked for among the first n, where it was found
+abbrev pub found : ℕ → ℕ → Option ℕ
+found n c = cond (ltb c n) (Some c) None
 
 -- how far the walk has come: what it tells, the next local number, and the map
 pub record Walked : Type 0 where
@@ -24,9 +28,9 @@ through next map = record { told = done; next = next; map = map }
 abbrev pub stopped : Told → List ℕ → Walked
 stopped t map = record { told = t; next = 0; map = map }
 
-abbrev pub walk_of : Walk → List ℕ → Walked
-walk_of (Through next) map = through next map
-walk_of (Stopped r) map = stopped (refused r) map
+abbrev pub walk_of : Result ℕ Refusal → List ℕ → Walked
+walk_of (Ok next) map = through next map
+walk_of (Err r) map = stopped (refused r) map
 
 -- column c claimed, if the walk has not stopped
 unfoldable pub claim_on : ℕ → Walked → ℕ → Walked

@@ -1,12 +1,13 @@
 // Marquardt's damping of the normal equations: each diagonal value's own size, held between two limits, times lambda. So the damped step does
 // not change when a parameter is rescaled, as it would with lambda alone on the diagonal. Rust's `clamp` panics on bad limits; here they are
 // refusal 12.
+#![tactic(auto, using(crate::proofs::DampingRules::damping))]
+
 ghost use Rattle.std.specs.Prelude.{◌≡◌};
-ghost use Rattle.std.specs.Float.Ieee.{is_nan};
 ghost use Rattle.columns.specs.Refusals.{told};
 ghost use Rattle.blocks.specs.Damping.{identity_of, bad_damping, damping_told, clamped, term_of, termed, diagonal_term};
 
-use columns::refusal::{Answer, Refusal};
+use columns::refusal::Refusal;
 
 #[derive(Clone, Copy)]
 pub struct Damping {
@@ -16,27 +17,13 @@ pub struct Damping {
     pub max: f64,
 }
 
-// The answer of `diagonal_term`.
-#[derive(Clone, Copy)]
-pub enum DiagonalTerm {
-    Term(f64),
-    Refused(Refusal),
-}
-
-// A NaN is the one number that differs from itself.
-fn is_nan(x: f64) -> bool
-    ensures { result ≡ is_nan x }
-{
-    x != x
-}
-
 impl Damping {
     // Plain `lambda · I`.
     pub fn identity(lambda: f64) -> Damping
         ensures { result ≡ identity_of lambda }
     {
         Damping {
-            lambda: lambda,
+            lambda,
             min: 1.0,
             max: 1.0,
         }
@@ -45,23 +32,17 @@ impl Damping {
     fn bad(self) -> bool
         ensures { result ≡ bad_damping self }
     {
-        if is_nan(self.min) {
-            return true;
-        }
-        if is_nan(self.max) {
-            return true;
-        }
-        self.min > self.max
+        self.min.is_nan() || self.max.is_nan() || self.min > self.max
     }
 
     // Whether a value can be held between the limits.
-    pub(crate) fn check(self) -> Answer
+    pub(crate) fn check(self) -> Result<(), Refusal>
         ensures { told result ≡ damping_told self }
     {
         if self.bad() {
-            return Answer::Refused(Refusal::BadDamping);
+            return Err(Refusal::BadDamping);
         }
-        Answer::Done
+        Ok(())
     }
 
     fn clamp(self, value: f64) -> f64
@@ -84,12 +65,10 @@ impl Damping {
     }
 
     // What damping adds to a diagonal value.
-    pub fn diagonal_term(self, value: f64) -> DiagonalTerm
+    pub fn diagonal_term(self, value: f64) -> Result<f64, Refusal>
         ensures { termed result ≡ diagonal_term self value }
     {
-        match self.check() {
-            Answer::Refused(r) => DiagonalTerm::Refused(r),
-            Answer::Done => DiagonalTerm::Term(self.term(value)),
-        }
+        self.check()?;
+        Ok(self.term(value))
     }
 }

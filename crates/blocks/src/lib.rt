@@ -8,3 +8,4 @@ pub mod damping;
 pub mod eliminated_blocks;
 pub mod owner;
 pub mod partition;
+pub mod sides;

@@ -1,10 +1,13 @@
 // Where a column stands, asked of lists that nobody has checked: nothing here refuses or asks anything of its lists. The layers above go by
 // the column map, which answers in one read; these are for callers that have no map.
+#![tactic(auto, using(crate::proofs::LookupRules::lookups))]
+
 ghost use Rattle.std.specs.Prelude.{◌≡◌, ◌*◌, ◌-◌, ◌≤◌, length};
 ghost use Rattle.blocks.specs.Sides.{first_of, dof_of, offset_of};
 ghost use Rattle.blocks.specs.Lookups.{asked, holds, holder, local_in, within_in, slot_of, offset_in, BlockThere, HeldBy, BlocksThere};
 
 use crate::check::MOST_BLOCKS;
+use crate::sides::Sides;
 use ground::wide;
 
 // Which side a column is on, and where there.
@@ -12,21 +15,6 @@ use ground::wide;
 pub enum ColSlot {
     Kept { local: usize },
     Eliminated { block: usize, offset: usize },
-    Nothing,
-}
-
-// A number, where there is one.
-#[derive(Clone, Copy)]
-pub enum Number {
-    Is(usize),
-    Nothing,
-}
-
-// A place in a block, where there is one.
-#[derive(Clone, Copy)]
-pub enum Within {
-    At { block: usize, offset: usize },
-    Nothing,
 }
 
 // How many blocks are asked: none of a list past the limit.
@@ -65,10 +53,7 @@ fn holds_column(side: &[u32], column: usize, b: usize) -> bool
 {
     let start = first_column(side, b);
     let dof = block_dof(side, b);
-    if column < start {
-        return false;
-    }
-    column < start + dof
+    start <= column && column < start + dof
 }
 
 // The first block that holds the column, or n.
@@ -76,6 +61,7 @@ fn holding_block(side: &[u32], column: usize) -> usize
     ensures { result ≡ holder side.now column }
 {
     let n = asked_blocks(side);
+    // By number, which is the answer. With `find` it was not proved that each block that the closure asks for is there.
     for b in 0..n {
         if holds_column(side, column, b) {
             return b;
@@ -91,6 +77,7 @@ fn dofs_before(side: &[u32], b: usize) -> usize
     ensures upper_bound { result ≤ b * 4_294_967_295 }
 {
     let mut sum: usize = 0;
+    // By number: what is asked is how much stands before the b-th block.
     for k in 0..b {
         sum = sum + block_dof(side, k);
     }
@@ -106,71 +93,63 @@ fn offset_within(side: &[u32], column: usize, b: usize) -> usize
     column - wide(side[b + b])
 }
 
-fn local_number(side: &[u32], column: usize) -> Number
+fn local_number(side: &[u32], column: usize) -> Option<usize>
     ensures { result ≡ local_in side.now column }
 {
     let b = holding_block(side, column);
     if b < asked_blocks(side) {
-        return Number::Is(dofs_before(side, b) + offset_within(side, column, b));
+        return Some(dofs_before(side, b) + offset_within(side, column, b));
     }
-    Number::Nothing
+    None
 }
 
 // The column's local number among the kept, if it is kept.
-pub fn kept_local(kept: &[u32], column: usize) -> Number
+pub fn kept_local(kept: &[u32], column: usize) -> Option<usize>
     ensures { result ≡ local_in kept.now column }
 {
     local_number(kept, column)
 }
 
 // The column's eliminated block and its offset there, if it is eliminated.
-pub fn eliminated_local(elims: &[u32], column: usize) -> Within
+pub fn eliminated_local(elims: &[u32], column: usize) -> Option<(usize, usize)>
     ensures { result ≡ within_in elims.now column }
 {
     let b = holding_block(elims, column);
     if b < asked_blocks(elims) {
-        return Within::At {
-            block: b,
-            offset: offset_within(elims, column, b),
-        };
+        return Some((b, offset_within(elims, column, b)));
     }
-    Within::Nothing
+    None
 }
 
 // Where the column stands: the kept blocks are asked first.
-pub fn slot(kept: &[u32], elims: &[u32], column: usize) -> ColSlot
-    ensures { result ≡ slot_of kept.now elims.now column }
+pub fn slot(sides: Sides, column: usize) -> Option<ColSlot>
+    ensures { result ≡ slot_of sides.entry.kept.now sides.entry.elims.now column }
 {
-    match kept_local(kept, column) {
-        Number::Is(local) => ColSlot::Kept { local: local },
-        Number::Nothing => match eliminated_local(elims, column) {
-            Within::At { block, offset } => ColSlot::Eliminated {
-                block: block,
-                offset: offset,
-            },
-            Within::Nothing => ColSlot::Nothing,
-        },
+    if let Some(local) = kept_local(sides.kept, column) {
+        return Some(ColSlot::Kept { local });
     }
+    let (block, offset) = eliminated_local(sides.elims, column)?;
+    Some(ColSlot::Eliminated { block, offset })
 }
 
-fn block_offset(side: &[u32], b: usize) -> Number
+fn block_offset(side: &[u32], b: usize) -> Option<usize>
     ensures { result ≡ offset_in side.now b }
 {
     if b < asked_blocks(side) {
-        return Number::Is(dofs_before(side, b));
+        return Some(dofs_before(side, b));
     }
-    Number::Nothing
+    None
 }
 
 // The local number of a kept block's first column.
-pub fn kept_offset(kept: &[u32], number: usize) -> Number
+pub fn kept_offset(kept: &[u32], number: usize) -> Option<usize>
     ensures { result ≡ offset_in kept.now number }
 {
     block_offset(kept, number)
 }
 
 // The local number of an eliminated block's first column.
-pub fn eliminated_offset(elims: &[u32], number: usize) -> Number
+pub fn eliminated_offset(elims: &[u32], number: usize) -> Option<usize>
     ensures { result ≡ offset_in elims.now number }
 {
     block_offset(elims, number)

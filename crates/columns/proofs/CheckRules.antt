@@ -1,5 +1,5 @@
 -- What the loops of src/check.rt and the length check show, for `search`. Assumes nothing.
-use mathlib.Core.Path.{◌≡◌, refl, sym, ◌∙◌}
+use mathlib.Core.Path.{◌≡◌, refl, sym, ap, ◌∙◌}
 use mathlib.Core.Bool.{Bool, true, false, ◌&&◌, ◌||◌}
 use mathlib.Core.List.{List, [], ◌∷◌}
 use Prim.Native.Nat.{ℕ, zero, suc, ◌+◌, ◌-◌, ◌/◌, ◌≤◌, ◌<◌}
@@ -12,7 +12,8 @@ use Rattle.ground.proofs.FirstLaws.{first_none, first-low, first_bad, past_none,
 use Rattle.ground.proofs.Rules.{searches}
 use Rattle.ground.proofs.TestLaws.{or_of}
 use Rattle.columns.specs.Refusals.{tell, done}
-use Rattle.columns.specs.Lengths.{length_of, need_of, pair_bad, bad_pair, pairs_told}
+use Rattle.std.specs.Prelude.{Option, Some, None as Nothing, cond}
+use Rattle.columns.specs.Lengths.{length_of, need_of, misfits, pair_bad, bad_pair, bad_pair_in, pairs_told}
 use Rattle.columns.specs.Columns.{falls, row_falls, row_bad}
 
 -- ---- the pointers
@@ -71,26 +72,39 @@ falls_read rows p = refl
 
 -- ---- what is lent
 
-module _ (pairs : List ℕ) (k : ℕ) where
-  pub pair-short : (exact : Bool) → length_of pairs k < need_of pairs k → true ≡ pair_bad exact pairs k
-  unfolding pair_bad
-  pair-short exact h = rw (lt-ltb _ _ h)
+-- a test of what stands in pair k is its test
+pub pair_tested : (exact : Bool) (pairs : List ℕ) (k length need : ℕ) → length ≡ length_of pairs k → need ≡ need_of pairs k → pair_bad exact pairs k ≡ misfits exact length need
+unfolding pair_bad
+pair_tested exact pairs k length need e f = rw (e, f)
 
-  pub pair_long : (exact : Bool) → need_of pairs k ≤ length_of pairs k → exact ≡ true → ltb (need_of pairs k) (length_of pairs k) ≡ pair_bad exact pairs k
-  unfolding pair_bad
-  pair_long exact h e = rw (le-ltb _ _ h, e)
+-- the place k that the code found, and the need there
+module _ (exact : Bool) (pairs : List ℕ) where
+  pub pair_found : (k need : ℕ) → k ≡ bad_pair exact pairs → need ≡ need_of pairs k → k < length pairs / 2 → Some (k, need) ≡ bad_pair_in exact pairs
+  unfolding bad_pair_in
+  pair_found k need e f l = rw (← e, lt-ltb k (length pairs / 2) l, f)
 
-  pub pair_fine : (exact : Bool) → need_of pairs k ≤ length_of pairs k → exact ≡ false → false ≡ pair_bad exact pairs k
-  unfolding pair_bad
-  pair_fine exact h e = rw (le-ltb _ _ h, e)
+  pub pair_none : length pairs / 2 ≡ bad_pair exact pairs → Nothing ≡ bad_pair_in exact pairs
+  unfolding bad_pair_in
+  pair_none e = rw (← e, le-ltb (length pairs / 2) (length pairs / 2) (omega arith))
 
-module _ (n k : ℕ) (exact : Bool) (pairs : List ℕ) (e : k ≡ bad_pair exact pairs) where
-  pub pair-told : k < length pairs / 2 → tell n (k ∷ get_or pairs (k + k + 1) 0 ∷ []) ≡ pairs_told n exact pairs
-  unfolding pairs_told
-  pair-told l = rw (← e, lt-ltb k (length pairs / 2) l)
+-- what is told of the pair that was found
+module _ (n : ℕ) (exact : Bool) (pairs : List ℕ) (o : Option (ℕ × ℕ)) (e : o ≡ bad_pair_in exact pairs) where
+  pub pairs_refused : (k need : ℕ) → o ≡ Some (k, need) → tell n (k ∷ need ∷ []) ≡ pairs_told n exact pairs
+  unfolding pairs_told bad_pair_in
+  pairs_refused k need p = go (ltb (bad_pair exact pairs) (length pairs / 2)) (sym e ∙ p)
+    where
+      go : (b : Bool) → cond {A = Option (ℕ × ℕ)} b (Some (bad_pair exact pairs, need_of pairs (bad_pair exact pairs))) Nothing ≡ Some (k, need)
+          → tell n (k ∷ need ∷ []) ≡ cond b (tell n (bad_pair exact pairs ∷ need_of pairs (bad_pair exact pairs) ∷ [])) done
+      go true q = let h : ◌≡◌ {A = ℕ × ℕ} (bad_pair exact pairs, need_of pairs (bad_pair exact pairs)) (k, need) = cc q in rw (← ap (λ p. p.0) h, ← ap (λ p. p.1) h)
+      go false q = absurd (cc q)
 
-  pub pairs_done : length pairs / 2 ≤ k → done ≡ pairs_told n exact pairs
-  unfolding pairs_told
-  pairs_done l = rw (← e, le-ltb k (length pairs / 2) l)
+  pub pairs_done : o ≡ Nothing → done ≡ pairs_told n exact pairs
+  unfolding pairs_told bad_pair_in
+  pairs_done p = go (ltb (bad_pair exact pairs) (length pairs / 2)) (sym e ∙ p)
+    where
+      go : (b : Bool) → cond {A = Option (ℕ × ℕ)} b (Some (bad_pair exact pairs, need_of pairs (bad_pair exact pairs))) Nothing ≡ Nothing
+          → done ≡ cond b (tell n (bad_pair exact pairs ∷ need_of pairs (bad_pair exact pairs) ∷ [])) done
+      go true q = absurd (cc q)
+      go false q = refl
 
-pub ruleset checking = (searches, falls_read, or_of, pointers_read, pair-short, pair_long, pair_fine, pair-told, pairs_done)
+pub ruleset checking = (searches, falls_read, or_of, pointers_read)

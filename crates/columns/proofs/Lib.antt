@@ -2,6 +2,10 @@
 pub mod RefusalLaws
 pub mod CheckLaws
 pub mod SumLaws
+mod CountLaws
+pub mod PartLaws
+mod WindowLaws
+mod PairWalkLaws
 pub mod CallLaws
 mod ReaderLaws
 mod CheckRules

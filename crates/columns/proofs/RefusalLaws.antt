@@ -3,7 +3,7 @@
 use mathlib.Core.Path.{◌≡◌, refl, ap, sym}
 use mathlib.Core.Bool.{Bool, true, false, cond}
 use mathlib.Core.List.{List}
-use Prim.Native.Nat.{ℕ, suc, ◌≤◌, ◌<◌}
+use Prim.Native.Nat.{ℕ, zero, suc, ◌≤◌, ◌<◌}
 use native.Mathlib.Omega.{arith}
 use lib.Dec.{eqb, leb}
 use lib.ListN.{get_or}
@@ -27,18 +27,28 @@ use Rattle.columns.specs.declared.refusal.Refusal.TheVariants.{
   BadPlan,
   BadSchedule,
 }
-use Rattle.columns.specs.declared.refusal.Answer.{Answer}
-use Rattle.columns.specs.declared.refusal.Answer.TheVariants.{Done, Refused}
-use Rattle.columns.specs.Refusals.{number, Told, tell, done, refused, told, Passes, on_pass, or_else, sooner}
+use Rattle.std.specs.Prelude.{Ok, Err}
+use Rattle.std.specs.Result.{result_and}
+use Rattle.columns.specs.declared.refusal.Side.{Side}
+use Rattle.columns.specs.declared.refusal.Side.TheVariants.{Kept, Eliminated}
+use Rattle.columns.specs.Refusals.{Answer, side_number, number, Told, tell, done, refused, told, Passes, on_pass, or_else, sooner}
 
 -- ---- the refusal of a number and values
+
+abbrev pub side_by : ℕ → Side
+side_by zero = Kept
+side_by (suc n) = Eliminated
+
+side_back : (s : Side) → side_by (side_number s) ≡ s
+side_back Kept = refl
+side_back Eliminated = refl
 
 unfoldable pub refusal_by : ℕ → List ℕ → Refusal
 refusal_by n vs =
     cond (eqb n 1) (TooBig)
     (cond (eqb n 2) (BadShape)
     (cond (eqb n 3) (BadRow (get_or vs 0 0) (get_or vs 1 0))
-    (cond (eqb n 4) (EmptySide (get_or vs 0 0))
+    (cond (eqb n 4) (EmptySide (side_by (get_or vs 0 0)))
     (cond (eqb n 5) (BadChunk)
     (cond (eqb n 6) (NoRoom (get_or vs 0 0) (get_or vs 1 0))
     (cond (eqb n 7) (ColumnOutOfRange (get_or vs 0 0))
@@ -47,7 +57,7 @@ refusal_by n vs =
     (cond (eqb n 10) (Connected (get_or vs 0 0) (get_or vs 1 0))
     (cond (eqb n 11) (WrongLength (get_or vs 0 0) (get_or vs 1 0))
     (cond (eqb n 12) (BadDamping)
-    (cond (eqb n 13) (BadPlan (get_or vs 0 0))
+    (cond (eqb n 13) (BadPlan (side_by (get_or vs 0 0)))
     (BadSchedule (get_or vs 0 0))))))))))))))
 
 unfoldable pub refusal_of : Told → Refusal
@@ -58,7 +68,7 @@ unfolding refusal_of refusal_by
 refusal_back TooBig = refl
 refusal_back BadShape = refl
 refusal_back (BadRow column place) = refl
-refusal_back (EmptySide side) = refl
+refusal_back (EmptySide side) = ap (λ (s : Side). EmptySide s) (side_back side)
 refusal_back BadChunk = refl
 refusal_back (NoRoom buffer need) = refl
 refusal_back (ColumnOutOfRange column) = refl
@@ -67,7 +77,7 @@ refusal_back (ColumnUnclaimed column) = refl
 refusal_back (Connected now earlier) = refl
 refusal_back (WrongLength place need) = refl
 refusal_back BadDamping = refl
-refusal_back (BadPlan side) = refl
+refusal_back (BadPlan side) = ap (λ (s : Side). BadPlan s) (side_back side)
 refusal_back (BadSchedule place) = refl
 
 -- no refusal has the number 0
@@ -90,12 +100,12 @@ number-some (BadSchedule place) = refl
 -- ---- the answer of what is told
 
 unfoldable pub answer_of : Told → Answer
-answer_of t = cond (eqb t.number 0) Done (Refused (refusal_of t))
+answer_of t = cond (eqb t.number 0) (Ok tt) (Err (refusal_of t))
 
 pub answer_back : (a : Answer) → answer_of (told a) ≡ a
 unfolding answer_of
-answer_back Done = refl
-answer_back (Refused r) = rw (number-some r) (ap (λ (s : Refusal). Refused s) (refusal_back r))
+answer_back (Ok x) = refl
+answer_back (Err r) = rw (number-some r) (ap (λ (s : Refusal). Err s) (refusal_back r))
 
 pub told_determined : (t : Told) → Determined (λ (a : Answer). told a ≡ t)
 told_determined = by_equation told answer_of answer_back
@@ -140,31 +150,30 @@ or_assoc a b c = go (eqb a.number 0) refl
     go true e = refl
     go false e = rw e
 
-pub second-told : (a b : Answer) → a ≡ Done → told b ≡ or_else (told a) (told b)
+-- `Result::and` is one after the other
+pub and_told : (a b : Answer) → told (result_and a b) ≡ or_else (told a) (told b)
 unfolding on_pass
-second-told a b e = rw e
-
-pub first-told : (a b : Answer) (r : Refusal) → a ≡ Refused r → told a ≡ or_else (told a) (told b)
-first-told a b r e = rw e (sym (pass_refused r _ _))
+and_told (Ok x) b = refl
+and_told (Err r) b = sym (or_refused r (told b))
 
 -- ---- `sooner`
 
-module _ (a b : Answer) where
-  pub sooner-second : a ≡ Done → told b ≡ sooner (told a) (told b)
-  unfolding on_pass
-  sooner-second e = rw e
+pub sooner_second : (t : Told) → t ≡ sooner done t
+unfolding on_pass
+sooner_second t = refl
 
-  pub sooner-first : (r : Refusal) → a ≡ Refused r → b ≡ Done → refused r ≡ sooner (told a) (told b)
-  unfolding on_pass
-  sooner-first r e q = rw (e, q, number-some r)
+pub sooner_first : (r : Refusal) → refused r ≡ sooner (refused r) done
+unfolding on_pass
+sooner_first r = rw (number-some r)
 
-  pub sooner_lower : (r s : Refusal) (n k : ℕ) → a ≡ Refused r → b ≡ Refused s → n ≡ number r → k ≡ number s → n ≤ k → refused r ≡ sooner (told a) (told b)
+module _ (r s : Refusal) where
+  pub sooner_lower : number r ≤ number s → refused r ≡ sooner (refused r) (refused s)
   unfolding on_pass
-  sooner_lower r s n k e q p t l = rw (e, q, number-some r, number-some s, le-leb (number r) (number s) (rw (p, t) at l))
+  sooner_lower l = rw (number-some r, number-some s, le-leb (number r) (number s) l)
 
-  pub sooner_higher : (r s : Refusal) (n k : ℕ) → a ≡ Refused r → b ≡ Refused s → n ≡ number r → k ≡ number s → k < n → refused s ≡ sooner (told a) (told b)
+  pub sooner_higher : number s < number r → refused s ≡ sooner (refused r) (refused s)
   unfolding on_pass
-  sooner_higher r s n k e q p t l = rw (e, q, number-some r, number-some s, lt-leb (number r) (number s) (rw (p, t) at l))
+  sooner_higher l = rw (number-some r, number-some s, lt-leb (number r) (number s) l)
 
 -- both of two checks pass where the sooner refusal is none
 pub sooner_pass : (a b : Told) → Passes (sooner a b) → Passes a × Passes b

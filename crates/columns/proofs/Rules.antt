@@ -1,18 +1,20 @@
 -- What the code's steps show of the definitions of specs/: a lemma for each way that a function returns, over plain variables, whose premises
 -- are what its calls and tests give. `search rules` then closes the goals. Assumes nothing.
-use mathlib.Core.Path.{◌≡◌, refl, sym}
+use mathlib.Core.Path.{◌≡◌, refl, sym, ◌∙◌}
 use mathlib.Core.Bool.{true, false}
 use mathlib.Core.List.{List}
 use Prim.Native.Nat.{ℕ, ◌+◌, ◌≤◌, ◌<◌}
 use lib.ListN.{length, get_or, set}
 use lib.Ieee.{Float, nan, binary64, add, sub, mul, eq}
 use Rattle.ground.specs.Gather.{gather}
+use Rattle.ground.specs.Fold.{folded}
+use Rattle.ground.proofs.GatherLaws.{gather_none}
 use Rattle.ground.proofs.FoldLaws.{folded_none, folded-one}
 use Rattle.ground.proofs.Rules.{loops}
 use Rattle.columns.specs.declared.unchecked.Sign.{Sign}
 use Rattle.columns.specs.declared.unchecked.Sign.TheVariants.{Plus, Minus}
 use Rattle.columns.specs.Columns.{columns_of, first_in, end_in}
-use Rattle.columns.specs.Sums.{zero₊, zero₋, add_term, joined, landed, sum_from, swept_on}
+use Rattle.columns.specs.Sums.{zero₊, zero₋, term, product, add_term, joined, landed, sum_from, swept_on}
 use Rattle.columns.specs.JacobianOps.{entry_term, square_term, squared_in, landing, landings}
 use Rattle.columns.specs.Unchecked.{ColumnThere, RunThere, RunsThere, EntryFits, EntriesFit, HasColumn, Gathers}
 use Rattle.columns.proofs.CheckLaws.{entries_fit}
@@ -39,11 +41,28 @@ pub lands : (sign : Sign) (rows : List ℕ) (values : List Float) (x : Float) (p
 unfolding landing landed
 lands sign rows values x p r z y e q = rw (q, e) (sym (folded-one (landed sign) y _))
 
+-- no place lands nothing
+pub lands_none : (sign : Sign) (rows : List ℕ) (values : List Float) (x : Float) (lo hi : ℕ) (y : List Float) → hi ≤ lo
+    → y ≡ swept_on sign y (gather (landing rows values x) lo hi)
+lands_none sign rows values x lo hi y h = rw (gather_none (landing rows values x) lo hi h) (sym (folded_none (landed sign) y))
+
+-- one lands its entry: r and v are its row and its value
+pub lands_one : (sign : Sign) (rows : List ℕ) (values : List Float) (x : Float) (p r : ℕ) (v : Float) (y z : List Float) → r ≡ get_or rows p 0 → v ≡ get_or values p nan
+    → z ≡ landed sign y (record { row = r; term = term v x }) → z ≡ folded (landed sign) y (landing rows values x p)
+unfolding landing
+lands_one sign rows values x p r v y z e f q = q ∙ rw (e, f) (sym (folded-one (landed sign) y _))
+
 -- r is the row number that the code read, z the sum that it was told
 pub adds : (rows : List ℕ) (values y : List Float) (p r : ℕ) (acc z : Float) → r ≡ get_or rows p 0
     → z ≡ add binary64 acc (mul binary64 (get_or values p nan) (get_or y r nan)) → z ≡ sum_from acc (entry_term rows values y p)
 unfolding entry_term add_term
 adds rows values y p r acc z e q = rw (q, e) (sym (folded-one add_term acc _))
+
+-- a gather takes in its entry: r and v are its row and its value
+pub takes_one : (rows : List ℕ) (values y : List Float) (p r : ℕ) (v acc z : Float) → r ≡ get_or rows p 0 → v ≡ get_or values p nan
+    → z ≡ add binary64 acc (product (term v (get_or y r nan))) → z ≡ sum_from acc (entry_term rows values y p)
+unfolding entry_term add_term
+takes_one rows values y p r v acc z e f q = q ∙ rw (e, f) (sym (folded-one add_term acc _))
 
 pub squares : (values : List Float) (p : ℕ) (acc : Float) → add binary64 acc (mul binary64 (get_or values p nan) (get_or values p nan)) ≡ sum_from acc (square_term values p)
 unfolding square_term add_term

@@ -1,10 +1,9 @@
 -- To be believed. The products of jacobian_ops.rs: their terms, and what each call answers and leaves. Assumes nothing.
-use Rattle.std.specs.Prelude.{cond, ◌&&◌, List, [], ◌∷◌, ℕ, eqb, leb, length, get_or, replicate, Float}
+use Rattle.std.specs.Prelude.{cond, ◌&&◌, List, [], ◌∷◌, ℕ, eqb, leb, length, get_or, replicate, Float, Result, Ok, Err}
 use Rattle.std.specs.Float.{nan}
 use Rattle.std.specs.Float.Ieee.{eq}
 use Rattle.ground.specs.Gather.{gather, list_of}
-use Rattle.columns.specs.declared.jacobian_ops.Dot.{Dot}
-use Rattle.columns.specs.declared.jacobian_ops.Dot.TheVariants.{Sum, Refused}
+use Rattle.columns.specs.declared.refusal.Refusal.{Refusal}
 use Rattle.columns.specs.declared.unchecked.Sign.TheVariants.{Plus}
 use Rattle.columns.specs.Refusals.{Told, tell, done, refused, on_pass, or_else}
 use Rattle.columns.specs.Lengths.{wrong_length}
@@ -81,9 +80,9 @@ pub record Dotted : Type 0 where
   pub told : Told
   pub sums : List Float
 
-abbrev pub dotted : Dot → Dotted
-dotted (Sum x) = record { told = done; sums = x ∷ [] }
-dotted (Refused r) = record { told = refused r; sums = [] }
+abbrev pub dotted : Result Float Refusal → Dotted
+dotted (Ok x) = record { told = done; sums = x ∷ [] }
+dotted (Err r) = record { told = refused r; sums = [] }
 
 -- 7: the column does not exist
 unfoldable pub no_column : ℕ → ℕ → Told

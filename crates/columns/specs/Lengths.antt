@@ -1,5 +1,5 @@
 -- To be believed. Refusals 6 and 11: what a call is lent, in order, as a flat list of pairs: length, need. Assumes nothing.
-use Rattle.std.specs.Prelude.{Bool, ◌&&◌, ◌||◌, true, false, cond, List, [], ◌∷◌, ℕ, ◌+◌, ◌/◌, ◌<◌, ltb, length, get_or}
+use Rattle.std.specs.Prelude.{Bool, ◌&&◌, ◌||◌, true, false, cond, List, [], ◌∷◌, ℕ, ◌+◌, ◌/◌, ltb, length, get_or, Option, Some, None}
 use Rattle.ground.specs.First.{first}
 use Rattle.columns.specs.Refusals.{Told, tell, done}
 
@@ -9,9 +9,13 @@ length_of pairs k = get_or pairs (k + k) 0
 abbrev pub need_of : List ℕ → ℕ → ℕ
 need_of pairs k = get_or pairs (k + k + 1) 0
 
--- pair k falls short of its need, or where it has to be exact passes it
+-- a length falls short of its need, or where it has to be exact passes it
+unfoldable pub misfits : Bool → ℕ → ℕ → Bool
+misfits exact length need = ltb length need || (exact && ltb need length)
+
+-- pair k does
 unfoldable pub pair_bad : Bool → List ℕ → ℕ → Bool
-pair_bad exact pairs k = ltb (length_of pairs k) (need_of pairs k) || (exact && ltb (need_of pairs k) (length_of pairs k))
+pair_bad exact pairs k = misfits exact (length_of pairs k) (need_of pairs k)
 
 -- the first that does, or how many whole pairs there are
 abbrev pub bad_pair : Bool → List ℕ → ℕ
@@ -30,6 +34,6 @@ no_room_of pairs = pairs_told 6 false pairs
 abbrev pub wrong_length : List ℕ → Told
 wrong_length pairs = pairs_told 11 true pairs
 
--- pair k is one of n numbers' whole pairs
-pub record PairThere (n k : ℕ) : Type 0 where
-  pub there : k + k + 1 < n
+-- its place and its need, if there is one
+unfoldable pub bad_pair_in : Bool → List ℕ → Option (ℕ × ℕ)
+bad_pair_in exact pairs = cond (ltb (bad_pair exact pairs) (length pairs / 2)) (Some (bad_pair exact pairs, need_of pairs (bad_pair exact pairs))) None

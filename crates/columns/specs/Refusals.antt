@@ -1,6 +1,6 @@
 -- To be believed. The numbered answers: what document 01's table says of each case of `Refusal`, and how checks go one after the other. Assumes
 -- nothing.
-use Rattle.std.specs.Prelude.{◌≡◌, cond, List, [], ◌∷◌, ℕ, eqb, leb}
+use Rattle.std.specs.Prelude.{◌≡◌, cond, List, [], ◌∷◌, ℕ, eqb, leb, Result, Ok, Err}
 use Rattle.columns.specs.declared.refusal.Refusal.{Refusal}
 use Rattle.columns.specs.declared.refusal.Refusal.TheVariants.{
   TooBig,
@@ -18,8 +18,8 @@ use Rattle.columns.specs.declared.refusal.Refusal.TheVariants.{
   BadPlan,
   BadSchedule,
 }
-use Rattle.columns.specs.declared.refusal.Answer.{Answer}
-use Rattle.columns.specs.declared.refusal.Answer.TheVariants.{Done, Refused}
+use Rattle.columns.specs.declared.refusal.Side.{Side}
+use Rattle.columns.specs.declared.refusal.Side.TheVariants.{Kept, Eliminated}
 
 -- the number of each refusal
 abbrev pub number : Refusal → ℕ
@@ -38,12 +38,17 @@ number BadDamping = 12
 number (BadPlan side) = 13
 number (BadSchedule place) = 14
 
+-- the number of each side
+abbrev pub side_number : Side → ℕ
+side_number Kept = 0
+side_number Eliminated = 1
+
 -- what it returns
 abbrev pub values : Refusal → List ℕ
 values TooBig = []
 values BadShape = []
 values (BadRow column place) = column ∷ place ∷ []
-values (EmptySide side) = side ∷ []
+values (EmptySide side) = side_number side ∷ []
 values BadChunk = []
 values (NoRoom buffer need) = buffer ∷ need ∷ []
 values (ColumnOutOfRange column) = column ∷ []
@@ -52,7 +57,7 @@ values (ColumnUnclaimed column) = column ∷ []
 values (Connected now earlier) = now ∷ earlier ∷ []
 values (WrongLength place need) = place ∷ need ∷ []
 values BadDamping = []
-values (BadPlan side) = side ∷ []
+values (BadPlan side) = side_number side ∷ []
 values (BadSchedule place) = place ∷ []
 
 -- what a call tells: a number, 0 for done, and the values that go with it. Every promise speaks through this
@@ -70,9 +75,12 @@ abbrev pub refused : Refusal → Told
 refused r = tell (number r) (values r)
 
 -- an answer without values of its own
+abbrev pub Answer : Type 0
+Answer = Result (Unit {0}) Refusal
+
 abbrev pub told : Answer → Told
-told Done = done
-told (Refused r) = refused r
+told (Ok x) = done
+told (Err r) = refused r
 
 -- no refusal
 abbrev pub Passes : Told → Type 0

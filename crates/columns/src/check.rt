@@ -2,14 +2,14 @@
 ghost use Rattle.std.specs.Prelude.{◌≡◌, ◌||◌, ◌+◌, ◌-◌, ◌<◌, ◌≤◌, leb, ltb, length};
 ghost use Rattle.ground.specs.First.{first, some};
 ghost use Rattle.columns.specs.Refusals.{told};
-ghost use Rattle.columns.specs.Columns.{columns_of, too_big, falls, bad_shape, row_falls, row_bad, bad_row, checked, Shaped};
-ghost use Rattle.columns.specs.Unchecked.{ColumnThere, RunThere};
-ghost use Rattle.columns.specs.Reader.{stops_at, above_of};
-ghost use Rattle.columns.specs.Rises.{bit_of, count, row_rises, begins_low, ends_high, all_rise, RisesFit};
+ghost use Rattle.columns.specs.Columns.{too_big, falls, bad_shape, row_falls, row_bad, bad_row, checked, Shaped};
+ghost use Rattle.columns.specs.Lent.{seen};
+ghost use Rattle.columns.specs.Unchecked.{RunThere};
+ghost use Rattle.columns.specs.Rises.{count, row_rises, begins_low, ends_high, all_rise, RisesFit};
 
-use crate::reader::{Step, moved, next, reader};
-use crate::refusal::{Answer, Refusal};
-use crate::unchecked::{end_place, first_place};
+use crate::lent::Columns;
+use crate::reader::reader;
+use crate::refusal::Refusal;
 use ground::wide;
 
 const MOST_ROWS: usize = 1_048_576;
@@ -18,34 +18,11 @@ const MOST_COLUMNS: usize = 65_536;
 
 const MOST_ENTRIES: usize = 16_777_216;
 
-// One fewer than the pointers; 0 where there are none.
-pub fn column_count(ptrs: &[u32]) -> usize
-    ensures { result ≡ length ptrs.now - 1 }
-{
-    if ptrs.len() == 0 {
-        return 0;
-    }
-    ptrs.len() - 1
-}
-
+#[tactic(auto, unfolding(crate::specs::Columns::too_big))]
 fn too_big(nrows: usize, ncolumns: usize, entries: usize) -> bool
     ensures { result ≡ too_big nrows ncolumns entries }
 {
-    if nrows > MOST_ROWS {
-        return true;
-    }
-    if ncolumns > MOST_COLUMNS {
-        return true;
-    }
-    entries > MOST_ENTRIES
-}
-
-// Whether the pointer after j is below that at j.
-fn pointer_falls(ptrs: &[u32], j: usize) -> bool
-    requires { ColumnThere (length ptrs.now) j }
-    ensures { result ≡ falls ptrs.now j }
-{
-    ptrs[j + 1] < ptrs[j]
+    nrows > MOST_ROWS || ncolumns > MOST_COLUMNS || entries > MOST_ENTRIES
 }
 
 // Whether a pointer is below the one before it; so of any list. It looks at all of them, without a branch, so that the compiler can take several
@@ -53,77 +30,43 @@ fn pointer_falls(ptrs: &[u32], j: usize) -> bool
 pub fn some_pointer_falls(ptrs: &[u32]) -> bool
     ensures { result ≡ some (falls ptrs.now) 0 (length ptrs.now - 1) }
 {
-    let n = column_count(ptrs);
     let mut bad = false;
-    for j in 0..n {
-        bad = bad | pointer_falls(ptrs, j);
+    for [before, after] in ptrs.array_windows::<2>() {
+        bad |= *after < *before;
     }
     bad
 }
 
+#[tactic(auto, unfolding(crate::specs::Columns::bad_shape))]
 fn bad_shape(ptrs: &[u32], entries: usize, nvalues: usize) -> bool
     ensures { result ≡ bad_shape ptrs.now entries nvalues }
 {
-    if ptrs.len() == 0 {
+    let Some(last) = ptrs.last() else {
         return true;
-    }
-    if ptrs[0] != 0 {
-        return true;
-    }
-    if some_pointer_falls(ptrs) {
-        return true;
-    }
-    let last = ptrs.len() - 1;
-    if wide(ptrs[last]) != entries {
-        return true;
-    }
-    nvalues != entries
+    };
+    ptrs[0] != 0 || some_pointer_falls(ptrs) || wide(*last) != entries || nvalues != entries
 }
 
 // Whether a row is too large, or below the least that may stand at its place.
 fn row_bad(nrows: usize, row: usize, least: usize) -> bool
     ensures { result ≡ (leb nrows row || ltb row least) }
 {
-    if nrows <= row {
-        return true;
-    }
-    row < least
+    nrows <= row || row < least
 }
 
-// Whether a walk stops at what its reader has come to: at a bad row, and at the column's end.
-fn stops(nrows: usize, step: Step, least: usize) -> bool
-    ensures { result ≡ stops_at nrows least step }
-{
-    match step {
-        Step::Row(row) => row_bad(nrows, wide(row), least),
-        Step::End => true,
-    }
-}
-
-// The least row that may stand after this one; 0 after the end.
-fn above(step: Step) -> usize
-    ensures { result ≡ above_of step }
-{
-    match step {
-        Step::Row(row) => wide(row) + 1,
-        Step::End => 0,
-    }
-}
-
-// How far into a column's own rows the first bad one stands, or their end. One reader is kept, and moved from the first row on.
+// How far into a column's own rows the first bad one stands, or their end.
 fn walk_column(nrows: usize, rows: &[u32]) -> usize
     ensures { result ≡ first (row_bad nrows rows.now 0) 0 (length rows.now) }
 {
-    let mut r = reader(rows);
-    let mut least: usize = 0;
-    loop {
-        let step = next(r);
-        if stops(nrows, step, least) {
-            return r.at;
+    let mut least = 0;
+    for (at, row) in reader(rows).enumerate() {
+        let row = wide(row);
+        if row_bad(nrows, row, least) {
+            return at;
         }
-        least = above(step);
-        r = moved(r);
+        least = row + 1;
     }
+    rows.len()
 }
 
 // The first bad entry of the column that begins at `from` and ends before `to`, or `to`.
@@ -144,39 +87,20 @@ fn row_falls(rows: &[u32], p: usize) -> bool
 }
 
 // The first column with a bad entry, and the place of its first one.
-fn bad_row(nrows: usize, ptrs: &[u32], rows: &[u32], values: &[f64]) -> Answer
-    requires { Shaped (columns_of nrows ptrs.now rows.now values.now) }
-    ensures { told result ≡ bad_row (columns_of nrows ptrs.now rows.now values.now) }
+fn bad_row(columns: Columns) -> Result<(), Refusal>
+    requires { Shaped (seen columns) }
+    ensures { told result ≡ bad_row (seen columns.entry) }
 {
-    let n = column_count(ptrs);
-    for j in 0..n {
-        let from = first_place(ptrs, j);
-        let to = end_place(ptrs, j);
-        let place = bad_place(nrows, rows, from, to);
+    // By number, which the refusal names.
+    for column in 0..columns.count() {
+        let from = columns.first_place(column);
+        let to = columns.end_place(column);
+        let place = bad_place(columns.nrows, columns.rows, from, to);
         if place < to {
-            return Answer::Refused(Refusal::BadRow {
-                column: j,
-                place: place,
-            });
+            return Err(Refusal::BadRow { column, place });
         }
     }
-    Answer::Done
-}
-
-// 1 for true, 0 for false.
-fn bit(b: bool) -> u32
-    ensures { (result ≡ bit_of b) × (result ≤ 1) }
-{
-    b as u32
-}
-
-// Whether the row at place p is above the one before it.
-fn row_rises(rows: &[u32], p: usize) -> bool
-    requires run_there { RunThere (length rows.now) p (p + 1) }
-    requires p_nonzero { 0 < p }
-    ensures { result ≡ row_rises rows.now p }
-{
-    rows[p - 1] < rows[p]
+    Ok(())
 }
 
 // How many rows are above the one before them. There is no branch, so that the compiler can take several at a time.
@@ -185,8 +109,9 @@ fn count_rises(rows: &[u32]) -> u32
     ensures { result ≡ count (row_rises rows.now) 1 (length rows.now) }
 {
     let mut n: u32 = 0;
+    // By index: over `array_windows` the compiler moves values between registers for each pair, 0.3 instructions an entry more.
     for p in 1..rows.len() {
-        n = n + bit(row_rises(rows, p));
+        n += u32::from(rows[p - 1] < rows[p]);
     }
     n
 }
@@ -196,13 +121,7 @@ fn begins_low(rows: &[u32], from: usize, to: usize) -> bool
     requires { RunThere (length rows.now) from to }
     ensures { result ≡ begins_low rows.now from to }
 {
-    if to <= from {
-        return false;
-    }
-    if from == 0 {
-        return true;
-    }
-    row_falls(rows, from)
+    from < to && (from == 0 || row_falls(rows, from))
 }
 
 // Whether a column has entries, and its last row is too large.
@@ -210,43 +129,40 @@ fn ends_high(nrows: usize, rows: &[u32], from: usize, to: usize) -> bool
     requires { RunThere (length rows.now) from to }
     ensures { result ≡ ends_high nrows rows.now from to }
 {
-    if to <= from {
-        return false;
-    }
-    nrows <= wide(rows[to - 1])
+    from < to && nrows <= wide(rows[to - 1])
 }
 
 // Whether all rows are good, by one pass over them, however short the columns: each is above the one before it or begins a column. It finds
 // no bad place.
-fn all_rise(nrows: usize, ptrs: &[u32], rows: &[u32]) -> bool
-    requires { RisesFit ptrs.now rows.now }
-    ensures { result ≡ all_rise nrows ptrs.now rows.now }
+fn all_rise(columns: Columns) -> bool
+    requires { RisesFit columns.ptrs.now columns.rows.now }
+    ensures { result ≡ all_rise columns.entry.nrows columns.entry.ptrs.now columns.entry.rows.now }
 {
-    let n = column_count(ptrs);
-    let mut seen = count_rises(rows);
-    for j in 0..n {
-        let from = first_place(ptrs, j);
-        let to = end_place(ptrs, j);
-        if ends_high(nrows, rows, from, to) {
+    let mut seen = count_rises(columns.rows);
+    // By number: a column's places are asked by it, here as everywhere.
+    for j in 0..columns.count() {
+        let from = columns.first_place(j);
+        let to = columns.end_place(j);
+        if ends_high(columns.nrows, columns.rows, from, to) {
             return false;
         }
-        seen = seen + bit(begins_low(rows, from, to));
+        seen += u32::from(begins_low(columns.rows, from, to));
     }
-    wide(seen) == rows.len()
+    wide(seen) == columns.rows.len()
 }
 
 // Whether the columns keep the rules: the first rule that is broken.
-pub fn check_columns(nrows: usize, ptrs: &[u32], rows: &[u32], values: &[f64]) -> Answer
-    ensures { told result ≡ checked (columns_of nrows ptrs.now rows.now values.now) }
+pub fn check_columns(columns: Columns) -> Result<(), Refusal>
+    ensures { told result ≡ checked (seen columns.entry) }
 {
-    if too_big(nrows, column_count(ptrs), rows.len()) {
-        return Answer::Refused(Refusal::TooBig);
+    if too_big(columns.nrows, columns.count(), columns.rows.len()) {
+        return Err(Refusal::TooBig);
     }
-    if bad_shape(ptrs, rows.len(), values.len()) {
-        return Answer::Refused(Refusal::BadShape);
+    if bad_shape(columns.ptrs, columns.rows.len(), columns.values.len()) {
+        return Err(Refusal::BadShape);
     }
-    if all_rise(nrows, ptrs, rows) {
-        return Answer::Done;
+    if all_rise(columns) {
+        return Ok(());
     }
-    bad_row(nrows, ptrs, rows, values)
+    bad_row(columns)
 }

@@ -4,6 +4,7 @@
 
 pub mod check;
 pub mod jacobian_ops;
+pub mod lent;
 mod reader;
 pub mod refusal;
 pub mod unchecked;

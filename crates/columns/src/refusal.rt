@@ -1,8 +1,27 @@
 // What a call answers. Every refusal of document 01 is a case of one enum, so that a later number costs one place: only `number` and
 // `values` look at the cases, and every other function passes a refusal on whole.
 ghost use Rattle.std.specs.Prelude.{◌≡◌, length, get_or};
-ghost use Rattle.columns.specs.Refusals.{number, values, told, or_else, sooner};
-ghost use Rattle.columns.specs.Lengths.{pair_bad, bad_pair, no_room_of, wrong_length, PairThere};
+ghost use Rattle.columns.specs.Refusals.{side_number, number, values, told, sooner};
+ghost use Rattle.columns.specs.Lengths.{misfits, bad_pair_in, no_room_of, wrong_length};
+
+// Which of the two lists of blocks: of the columns that stay, and of those that the reduced operator does away with.
+#[derive(Clone, Copy)]
+pub enum Side {
+    Kept,
+    Eliminated,
+}
+
+impl Side {
+    // The number by which a refusal names it.
+    pub fn number(self) -> usize
+        ensures { result ≡ side_number self }
+    {
+        match self {
+            Side::Kept => 0,
+            Side::Eliminated => 1,
+        }
+    }
+}
 
 // Why a call was refused: document 01's numbers 1 to 14, in its order.
 #[derive(Clone, Copy)]
@@ -11,8 +30,7 @@ pub enum Refusal {
     BadShape,
     // the first column with a bad entry, and that entry's place among all entries
     BadRow { column: usize, place: usize },
-    // 0 kept, 1 eliminated
-    EmptySide { side: usize },
+    EmptySide { side: Side },
     BadChunk,
     // the buffer's place in the room list
     NoRoom { buffer: usize, need: usize },
@@ -24,17 +42,44 @@ pub enum Refusal {
     // the place among the lengths that the call takes
     WrongLength { place: usize, need: usize },
     BadDamping,
-    // 0 kept, 1 eliminated
-    BadPlan { side: usize },
+    BadPlan { side: Side },
     BadSchedule { place: usize },
 }
 
-// A refusal's values: how many it has, and the two; 0 where there is none.
+// A refusal's values: how many it has, and the two; 0 where there is none. Two numbers and not a list: the exports write them through two numbers that
+// C lends.
 #[derive(Clone, Copy)]
 pub struct Values {
     pub count: usize,
     pub first: usize,
     pub second: usize,
+}
+
+// No values, one, and two.
+const NO_VALUES: Values = Values {
+    count: 0,
+    first: 0,
+    second: 0,
+};
+
+fn one_value(first: usize) -> Values
+    ensures { result ≡ record { count = 1; first = first; second = 0 } }
+{
+    Values {
+        count: 1,
+        first,
+        second: 0,
+    }
+}
+
+fn two_values(first: usize, second: usize) -> Values
+    ensures { result ≡ record { count = 2; first = first; second = second } }
+{
+    Values {
+        count: 2,
+        first,
+        second,
+    }
 }
 
 impl Refusal {
@@ -45,21 +90,18 @@ impl Refusal {
         match self {
             Refusal::TooBig => 1,
             Refusal::BadShape => 2,
-            Refusal::BadRow {
-                column: _,
-                place: _,
-            } => 3,
-            Refusal::EmptySide { side: _ } => 4,
+            Refusal::BadRow { .. } => 3,
+            Refusal::EmptySide { .. } => 4,
             Refusal::BadChunk => 5,
-            Refusal::NoRoom { buffer: _, need: _ } => 6,
-            Refusal::ColumnOutOfRange { column: _ } => 7,
-            Refusal::ColumnTwice { column: _ } => 8,
-            Refusal::ColumnUnclaimed { column: _ } => 9,
-            Refusal::Connected { now: _, earlier: _ } => 10,
-            Refusal::WrongLength { place: _, need: _ } => 11,
+            Refusal::NoRoom { .. } => 6,
+            Refusal::ColumnOutOfRange { .. } => 7,
+            Refusal::ColumnTwice { .. } => 8,
+            Refusal::ColumnUnclaimed { .. } => 9,
+            Refusal::Connected { .. } => 10,
+            Refusal::WrongLength { .. } => 11,
             Refusal::BadDamping => 12,
-            Refusal::BadPlan { side: _ } => 13,
-            Refusal::BadSchedule { place: _ } => 14,
+            Refusal::BadPlan { .. } => 13,
+            Refusal::BadSchedule { .. } => 14,
         }
     }
 
@@ -68,169 +110,71 @@ impl Refusal {
         ensures { result ≡ record { count = length (values self); first = get_or (values self) 0 0; second = get_or (values self) 1 0 } }
     {
         match self {
-            Refusal::TooBig => Values {
-                count: 0,
-                first: 0,
-                second: 0,
-            },
-            Refusal::BadShape => Values {
-                count: 0,
-                first: 0,
-                second: 0,
-            },
-            Refusal::BadRow { column, place } => Values {
-                count: 2,
-                first: column,
-                second: place,
-            },
-            Refusal::EmptySide { side } => Values {
-                count: 1,
-                first: side,
-                second: 0,
-            },
-            Refusal::BadChunk => Values {
-                count: 0,
-                first: 0,
-                second: 0,
-            },
-            Refusal::NoRoom { buffer, need } => Values {
-                count: 2,
-                first: buffer,
-                second: need,
-            },
-            Refusal::ColumnOutOfRange { column } => Values {
-                count: 1,
-                first: column,
-                second: 0,
-            },
-            Refusal::ColumnTwice { column } => Values {
-                count: 1,
-                first: column,
-                second: 0,
-            },
-            Refusal::ColumnUnclaimed { column } => Values {
-                count: 1,
-                first: column,
-                second: 0,
-            },
-            Refusal::Connected { now, earlier } => Values {
-                count: 2,
-                first: now,
-                second: earlier,
-            },
-            Refusal::WrongLength { place, need } => Values {
-                count: 2,
-                first: place,
-                second: need,
-            },
-            Refusal::BadDamping => Values {
-                count: 0,
-                first: 0,
-                second: 0,
-            },
-            Refusal::BadPlan { side } => Values {
-                count: 1,
-                first: side,
-                second: 0,
-            },
-            Refusal::BadSchedule { place } => Values {
-                count: 1,
-                first: place,
-                second: 0,
-            },
+            Refusal::TooBig | Refusal::BadShape | Refusal::BadChunk | Refusal::BadDamping =>
+                NO_VALUES,
+            Refusal::EmptySide { side } | Refusal::BadPlan { side } => one_value(side.number()),
+            Refusal::ColumnOutOfRange { column }
+            | Refusal::ColumnTwice { column }
+            | Refusal::ColumnUnclaimed { column } => one_value(column),
+            Refusal::BadSchedule { place } => one_value(place),
+            Refusal::BadRow { column, place } => two_values(column, place),
+            Refusal::NoRoom { buffer, need } => two_values(buffer, need),
+            Refusal::Connected { now, earlier } => two_values(now, earlier),
+            Refusal::WrongLength { place, need } => two_values(place, need),
         }
-    }
-}
-
-// The answer of a call that gives no values of its own.
-#[derive(Clone, Copy)]
-pub enum Answer {
-    Done,
-    Refused(Refusal),
-}
-
-// One check after another: the first that fails answers.
-pub fn or_else(a: Answer, b: Answer) -> Answer
-    ensures { told result ≡ or_else (told a) (told b) }
-{
-    match a {
-        Answer::Done => b,
-        Answer::Refused(_) => a,
     }
 }
 
 // Two checks side by side: the refusal with the lower number answers, since document 01's order is that of the numbers.
-pub fn sooner(a: Answer, b: Answer) -> Answer
+pub fn sooner(a: Result<(), Refusal>, b: Result<(), Refusal>) -> Result<(), Refusal>
     ensures { told result ≡ sooner (told a) (told b) }
 {
-    match a {
-        Answer::Done => b,
-        Answer::Refused(r) => match b {
-            Answer::Done => a,
-            Answer::Refused(s) => {
-                if r.number() <= s.number() {
-                    return a;
-                }
-                b
-            }
-        },
-    }
+    let Err(r) = a else {
+        return b;
+    };
+    let Err(s) = b else {
+        return a;
+    };
+    if s.number() < r.number() { b } else { a }
 }
 
-// Whether pair k falls short of its need, or where it has to be exact passes it.
-fn pair_bad(exact: bool, pairs: &[usize], k: usize) -> bool
-    requires { PairThere (length pairs.now) k }
-    ensures { result ≡ pair_bad exact pairs.now k }
+// Whether a length falls short of its need, or where it has to be exact passes it.
+#[tactic(auto, unfolding(crate::specs::Lengths::misfits))]
+fn misfits(exact: bool, length: usize, need: usize) -> bool
+    ensures { result ≡ misfits exact length need }
 {
-    let length = pairs[k + k];
-    let need = pairs[k + k + 1];
-    if length < need {
-        return true;
-    }
-    if exact {
-        return need < length;
-    }
-    false
+    length < need || exact && need < length
 }
 
-// The first bad pair, or how many whole pairs there are.
-fn bad_pair(exact: bool, pairs: &[usize]) -> usize
-    ensures { result ≡ bad_pair exact pairs.now }
+// The first bad pair: its place among the pairs, and its need.
+fn bad_pair(exact: bool, pairs: &[usize]) -> Option<(usize, usize)>
+    ensures { result ≡ bad_pair_in exact pairs.now }
 {
-    let n = pairs.len() / 2;
-    for k in 0..n {
-        if pair_bad(exact, pairs, k) {
-            return k;
+    for (k, pair) in pairs.chunks_exact(2).enumerate() {
+        if misfits(exact, pair[0], pair[1]) {
+            return Some((k, pair[1]));
         }
     }
-    n
+    None
 }
 
 // The first of a call's buffers that is shorter than its need. What is lent comes as pairs, length then need, in document 01's order, so
 // that a call's list is written once and no place number is.
-pub fn no_room(pairs: &[usize]) -> Answer
+pub fn no_room(pairs: &[usize]) -> Result<(), Refusal>
     ensures { told result ≡ no_room_of pairs.now }
 {
-    let k = bad_pair(false, pairs);
-    if k < pairs.len() / 2 {
-        return Answer::Refused(Refusal::NoRoom {
-            buffer: k,
-            need: pairs[k + k + 1],
-        });
+    match bad_pair(false, pairs) {
+        Some((buffer, need)) => Err(Refusal::NoRoom { buffer, need }),
+        None => Ok(()),
     }
-    Answer::Done
 }
 
 // The first of a call's lengths that is not its need, likewise.
-pub fn wrong_length(pairs: &[usize]) -> Answer
+pub fn wrong_length(pairs: &[usize]) -> Result<(), Refusal>
     ensures { told result ≡ wrong_length pairs.now }
 {
-    let k = bad_pair(true, pairs);
-    if k < pairs.len() / 2 {
-        return Answer::Refused(Refusal::WrongLength {
-            place: k,
-            need: pairs[k + k + 1],
-        });
+    match bad_pair(true, pairs) {
+        Some((place, need)) => Err(Refusal::WrongLength { place, need }),
+        None => Ok(()),
     }
-    Answer::Done
 }

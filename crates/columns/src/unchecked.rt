@@ -4,28 +4,13 @@ ghost use Rattle.std.specs.Prelude.{◌≡◌, ◌<◌, length};
 ghost use Rattle.std.specs.Float.{binary64};
 ghost use Rattle.std.specs.Float.Ieee.{add};
 ghost use Rattle.ground.specs.Gather.{gather};
-ghost use Rattle.columns.specs.Columns.{columns_of, first_in, end_in};
-ghost use Rattle.columns.specs.Sums.{term, product, joined, sum_from, swept_on};
+ghost use Rattle.columns.specs.Lent.{seen, over};
+ghost use Rattle.columns.specs.Sums.{term, product, joined, landed, sum_from, swept_on};
 ghost use Rattle.columns.specs.JacobianOps.{entry_term, gather_terms, landing, landings, sweep_terms, dot_of};
-ghost use Rattle.columns.specs.Unchecked.{ColumnThere, EntryFits, EntriesFit, HasColumn, HasColumns, MergeFits, merge_step};
+ghost use Rattle.columns.specs.Unchecked.{RunThere, EntriesFit, HasColumn, HasColumns, MergeFits, merge_step};
 
+use crate::lent::Columns;
 use ground::wide;
-
-// Where column j's entries begin.
-pub fn first_place(ptrs: &[u32], j: usize) -> usize
-    requires { ColumnThere (length ptrs.now) j }
-    ensures { result ≡ first_in ptrs.now j }
-{
-    wide(ptrs[j])
-}
-
-// One past column j's last entry.
-pub fn end_place(ptrs: &[u32], j: usize) -> usize
-    requires { ColumnThere (length ptrs.now) j }
-    ensures { result ≡ end_in ptrs.now j }
-{
-    wide(ptrs[j + 1])
-}
 
 // Whether terms are added to the rows or subtracted.
 #[derive(Clone, Copy)]
@@ -44,60 +29,46 @@ fn join(sign: Sign, a: f64, t: f64) -> f64
     }
 }
 
-// The entry at place p, taken x times, at its row of y.
-fn land(sign: Sign, rows: &[u32], values: &[f64], x: f64, p: usize, y: &mut [f64])
-    requires { EntryFits rows.now (length values.now) (length y.old) p }
-    ensures { y.new ≡ swept_on sign y.old (landing rows.now values.now x p) }
+// One entry, taken x times, at its row of y.
+fn land(sign: Sign, row: u32, value: f64, x: f64, y: &mut [f64])
+    requires { row < length y.old }
+    ensures { y.new ≡ landed sign y.old (record { row = row; term = term value x }) }
 {
-    let r = wide(rows[p]);
-    y[r] = join(sign, y[r], values[p] * x);
+    let r = wide(row);
+    y[r] = join(sign, y[r], value * x);
 }
 
 fn land_all(sign: Sign, rows: &[u32], values: &[f64], x: f64, lo: usize, hi: usize, y: &mut [f64])
     requires { EntriesFit rows.now (length values.now) (length y.old) lo hi }
     ensures { y.new ≡ swept_on sign y.old (gather (landing rows.now values.now x) lo hi) }
 {
-    for p in lo..hi {
-        land(sign, rows, values, x, p, y);
+    if hi <= lo {
+        return;
+    }
+    for (row, value) in rows[lo..hi].iter().zip(&values[lo..hi]) {
+        land(sign, *row, *value, x, y);
     }
 }
 
 // The entries at places lo up to hi, x times, at their rows of y; nothing where x equals 0.0, of either sign.
-pub fn sweep_entries(
-    sign: Sign,
-    rows: &[u32],
-    values: &[f64],
-    x: f64,
-    lo: usize,
-    hi: usize,
-    y: &mut [f64],
-)
-    requires { EntriesFit rows.now (length values.now) (length y.old) lo hi }
-    ensures { y.new ≡ swept_on sign y.old (landings rows.now values.now x lo hi) }
+pub fn sweep_entries(sign: Sign, columns: Columns, x: f64, lo: usize, hi: usize, y: &mut [f64])
+    requires { EntriesFit columns.rows.now (length columns.values.now) (length y.old) lo hi }
+    ensures { y.new ≡ swept_on sign y.old (landings columns.entry.rows.now columns.entry.values.now x lo hi) }
 {
     if x == 0.0 {
         return;
     }
-    land_all(sign, rows, values, x, lo, hi, y);
+    land_all(sign, columns.rows, columns.values, x, lo, hi, y);
 }
 
 // One column's sweep.
-pub fn sweep_column(
-    sign: Sign,
-    ptrs: &[u32],
-    rows: &[u32],
-    values: &[f64],
-    x: f64,
-    j: usize,
-    y: &mut [f64],
-)
-    requires { HasColumn (columns_of (length y.old) ptrs.now rows.now values.now) j }
-    ensures { let m = columns_of (length y.old) ptrs.now rows.now values.now in
-        y.new ≡ swept_on sign y.old (sweep_terms m x j) }
+pub fn sweep_column(sign: Sign, columns: Columns, x: f64, j: usize, y: &mut [f64])
+    requires { HasColumn (over (length y.old) columns) j }
+    ensures { y.new ≡ swept_on sign y.old (sweep_terms (over (length y.old) columns.entry) x j) }
 {
-    let lo = first_place(ptrs, j);
-    let hi = end_place(ptrs, j);
-    sweep_entries(sign, rows, values, x, lo, hi, y);
+    let lo = columns.first_place(j);
+    let hi = columns.end_place(j);
+    sweep_entries(sign, columns, x, lo, hi, y);
 }
 
 // A sum with one product taken in, whatever its factors are.
@@ -107,43 +78,28 @@ fn add_term(acc: f64, v: f64, x: f64) -> f64
     acc + v * x
 }
 
-// The entry at place p with what y holds at its row, added to acc.
-fn add_entry(rows: &[u32], values: &[f64], p: usize, y: &[f64], acc: f64) -> f64
-    requires { EntryFits rows.now (length values.now) (length y.now) p }
-    ensures { result ≡ sum_from acc (entry_term rows.now values.now y.now p) }
-{
-    let r = wide(rows[p]);
-    add_term(acc, values[p], y[r])
-}
-
-// The sum over places lo up to hi, from start. No zero is skipped.
+// The sum over places lo up to hi of each entry with what y holds at its row, from start. No zero is skipped.
 fn gather_entries(rows: &[u32], values: &[f64], lo: usize, hi: usize, y: &[f64], start: f64) -> f64
-    requires { EntriesFit rows.now (length values.now) (length y.now) lo hi }
+    requires run { RunThere (length rows.now) lo hi }
+    requires fit { EntriesFit rows.now (length values.now) (length y.now) lo hi }
+    requires paired { length values.now ≡ length rows.now }
     ensures { result ≡ sum_from start (gather (entry_term rows.now values.now y.now) lo hi) }
 {
     let mut acc = start;
-    for p in lo..hi {
-        acc = add_entry(rows, values, p, y, acc);
+    for (row, value) in rows[lo..hi].iter().zip(&values[lo..hi]) {
+        acc = add_term(acc, *value, y[wide(*row)]);
     }
     acc
 }
 
 // One column's gather.
-pub fn gather_column(
-    ptrs: &[u32],
-    rows: &[u32],
-    values: &[f64],
-    j: usize,
-    y: &[f64],
-    start: f64,
-) -> f64
-    requires { HasColumn (columns_of (length y.now) ptrs.now rows.now values.now) j }
-    ensures { let m = columns_of (length y.now) ptrs.now rows.now values.now in
-        result ≡ sum_from start (gather_terms m y.now j) }
+pub fn gather_column(columns: Columns, j: usize, y: &[f64], start: f64) -> f64
+    requires { HasColumn (over (length y.now) columns) j }
+    ensures { result ≡ sum_from start (gather_terms (over (length y.now) columns.entry) y.now j) }
 {
-    let lo = first_place(ptrs, j);
-    let hi = end_place(ptrs, j);
-    gather_entries(rows, values, lo, hi, y, start)
+    let lo = columns.first_place(j);
+    let hi = columns.end_place(j);
+    gather_entries(columns.rows, columns.values, lo, hi, y, start)
 }
 
 // How far the merge of two columns has come: the next entry of each, and the sum so far.
@@ -167,15 +123,15 @@ fn merge_step(rows: &[u32], values: &[f64], at: Merge) -> Merge
     if row_a < row_b {
         return Merge {
             ia: ia + 1,
-            ib: ib,
-            acc: acc,
+            ib,
+            acc,
         };
     }
     if row_b < row_a {
         return Merge {
-            ia: ia,
+            ia,
             ib: ib + 1,
-            acc: acc,
+            acc,
         };
     }
     Merge {
@@ -186,29 +142,20 @@ fn merge_step(rows: &[u32], values: &[f64], at: Merge) -> Merge
 }
 
 // The dot of two columns: a sorted merge over their rows, so the cost is the sum of their entry counts and not the product.
-pub fn dot_columns(
-    nrows: usize,
-    ptrs: &[u32],
-    rows: &[u32],
-    values: &[f64],
-    a: usize,
-    b: usize,
-) -> f64
-    requires { HasColumns (columns_of nrows ptrs.now rows.now values.now) a b }
-    ensures { result ≡ dot_of (columns_of nrows ptrs.now rows.now values.now) a b }
+pub fn dot_columns(columns: Columns, a: usize, b: usize) -> f64
+    requires { HasColumns (seen columns) a b }
+    ensures { result ≡ dot_of (seen columns.entry) a b }
 {
-    let end_a = end_place(ptrs, a);
-    let end_b = end_place(ptrs, b);
+    let end_a = columns.end_place(a);
+    let end_b = columns.end_place(b);
     let mut at = Merge {
-        ia: first_place(ptrs, a),
-        ib: first_place(ptrs, b),
+        ia: columns.first_place(a),
+        ib: columns.first_place(b),
         acc: 0.0,
     };
-    while at.ia < end_a {
-        if at.ib >= end_b {
-            return at.acc;
-        }
-        at = merge_step(rows, values, at);
+    // By places: a merge goes on in one of two lists at each turn, so no iterator runs over either.
+    while at.ia < end_a && at.ib < end_b {
+        at = merge_step(columns.rows, columns.values, at);
     }
     at.acc
 }

@@ -5,8 +5,8 @@ ghost use Rattle.columns.specs.Refusals.{told, refused};
 ghost use Rattle.plan.specs.Plan.{told_plan};
 ghost use Rattle.edge.specs.Edge.{crossed};
 
-use columns::refusal::{Answer, Refusal};
-use plan::structure::Planned;
+use columns::refusal::Refusal;
+use plan::structure::SpanCounts;
 
 // A refusal's number, and its values.
 pub fn cross_refusal(r: Refusal, first: &mut u64, second: &mut u64) -> u32
@@ -19,32 +19,33 @@ pub fn cross_refusal(r: Refusal, first: &mut u64, second: &mut u64) -> u32
 }
 
 // The same of an answer without values of its own.
-pub fn cross_answer(answer: Answer, first: &mut u64, second: &mut u64) -> u32
+pub fn cross_answer(answer: Result<(), Refusal>, first: &mut u64, second: &mut u64) -> u32
     ensures { record { number = result; first = first.new; second = second.new } ≡ crossed (told answer) }
 {
     match answer {
-        Answer::Done => {
+        Ok(()) => {
             *first = 0;
             *second = 0;
             0
         }
-        Answer::Refused(r) => cross_refusal(r, first, second),
+        Err(r) => cross_refusal(r, first, second),
     }
 }
 
 // The same of the plan, whose 0 has the two span counts.
-pub(crate) fn cross_plan(planned: Planned, first: &mut u64, second: &mut u64) -> u32
+pub(crate) fn cross_plan(
+    planned: Result<SpanCounts, Refusal>,
+    first: &mut u64,
+    second: &mut u64,
+) -> u32
     ensures { record { number = result; first = first.new; second = second.new } ≡ crossed (told_plan planned) }
 {
     match planned {
-        Planned::Done {
-            kept_spans,
-            eliminated_spans,
-        } => {
-            *first = kept_spans as u64;
-            *second = eliminated_spans as u64;
+        Ok(spans) => {
+            *first = spans.kept as u64;
+            *second = spans.eliminated as u64;
             0
         }
-        Planned::Refused(r) => cross_refusal(r, first, second),
+        Err(r) => cross_refusal(r, first, second),
     }
 }

@@ -9,6 +9,9 @@ ghost use Rattle.edge.specs.Edge.{Crossed, plan_export, operator_export, update_
 ghost use Rattle.plan.specs.Spans.{spread_of};
 
 use crate::cross::{cross_answer, cross_plan};
+use blocks::sides::Sides;
+use columns::lent::Columns;
+use plan::lent::Spans;
 use plan::structure::plan;
 use products::operator::apply_schur_operator;
 use products::update::combine_updates;
@@ -55,13 +58,16 @@ pub fn pivotfern_plan(
         record { told = told; left = left }
         ≡ plan_export (planned m kept.now elims.now chunk_len lent) }
 {
-    let answer = plan(
+    let columns = Columns {
         nrows,
         ptrs,
         rows,
         values,
-        kept,
-        elims,
+    };
+    let sides = Sides { kept, elims };
+    let answer = plan(
+        columns,
+        sides,
         chunk_len,
         map,
         kept_cols,
@@ -122,26 +128,33 @@ pub fn pivotfern_operator(
         (record { v = v.now; inverses = inverses.now; d = d.now; kept = kept_lent; elims = elims_lent })
         (record { rows = y.old; t = t.old; u = u.old; out = out.old })) }
 {
-    let answer = apply_schur_operator(
+    let columns = Columns {
         nrows,
         ptrs,
         rows,
         values,
-        kept,
-        elims,
+    };
+    let sides = Sides { kept, elims };
+    let answer = apply_schur_operator(
+        columns,
+        sides,
         map,
         chunk_len,
         v,
         inverses,
         d,
-        kept_starts,
-        kept_lo,
-        kept_hi,
-        kept_local,
-        elims_starts,
-        elims_lo,
-        elims_hi,
-        elims_local,
+        Spans {
+            starts: kept_starts,
+            lo: kept_lo,
+            hi: kept_hi,
+            local: kept_local,
+        },
+        Spans {
+            starts: elims_starts,
+            lo: elims_lo,
+            hi: elims_hi,
+            local: elims_local,
+        },
         y,
         t,
         u,
@@ -172,17 +185,13 @@ pub fn pivotfern_update(
         (combine_updates m kept.now elims.now map.old kept_update.now elims_update.now
         out.old) }
 {
-    let answer = combine_updates(
+    let columns = Columns {
         nrows,
         ptrs,
         rows,
         values,
-        kept,
-        elims,
-        map,
-        kept_update,
-        elims_update,
-        out,
-    );
+    };
+    let sides = Sides { kept, elims };
+    let answer = combine_updates(columns, sides, map, kept_update, elims_update, out);
     cross_answer(answer, first, second)
 }

@@ -1,13 +1,9 @@
 -- To be believed. What the exports give that are there for comparison only. Assumes nothing.
-use Rattle.std.specs.Prelude.{Bool, not, List, ℕ, eqb, get_or, Float}
+use Rattle.std.specs.Prelude.{Bool, not, List, ℕ, eqb, get_or, Float, Option, Some, None}
 use Rattle.columns.specs.JacobianOps.{Dotted, Left, LeftRows}
 use Rattle.blocks.specs.Claims.{Mapped}
 use Rattle.blocks.specs.BlockValues.{ValuesLeft}
 use Rattle.blocks.specs.Damping.{Termed}
-use Rattle.blocks.specs.declared.partition.Number.{Number}
-use Rattle.blocks.specs.declared.partition.Number.TheVariants as number
-use Rattle.blocks.specs.declared.partition.Within.{Within}
-use Rattle.blocks.specs.declared.partition.Within.TheVariants as within
 use Rattle.blocks.specs.declared.partition.ColSlot.{ColSlot}
 use Rattle.blocks.specs.declared.partition.ColSlot.TheVariants as slot
 use Rattle.blocks.specs.declared.eliminated_blocks.Place.{Place}
@@ -59,18 +55,18 @@ abbrev pub looked : ℕ → ℕ → ℕ → Looked
 looked kind first second = record { kind = kind; first = first; second = second }
 
 -- 0 nothing; 1 and a local number; 2, a block and an offset
-abbrev pub number_looked : Number → Looked
-number_looked (number.Is local) = looked 1 local 0
-number_looked number.Nothing = looked 0 0 0
+abbrev pub number_looked : Option ℕ → Looked
+number_looked (Some local) = looked 1 local 0
+number_looked None = looked 0 0 0
 
-abbrev pub within_looked : Within → Looked
-within_looked (within.At block offset) = looked 2 block offset
-within_looked within.Nothing = looked 0 0 0
+abbrev pub within_looked : Option (ℕ × ℕ) → Looked
+within_looked (Some (block, offset)) = looked 2 block offset
+within_looked None = looked 0 0 0
 
-abbrev pub slot_looked : ColSlot → Looked
-slot_looked (slot.Kept local) = looked 1 local 0
-slot_looked (slot.Eliminated block offset) = looked 2 block offset
-slot_looked slot.Nothing = looked 0 0 0
+abbrev pub slot_looked : Option ColSlot → Looked
+slot_looked (Some (slot.Kept local)) = looked 1 local 0
+slot_looked (Some (slot.Eliminated block offset)) = looked 2 block offset
+slot_looked None = looked 0 0 0
 
 -- a part of a slice, of which there is one kind, 0: its start and its length
 abbrev pub place_looked : Place → Looked

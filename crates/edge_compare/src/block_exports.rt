@@ -9,11 +9,13 @@ ghost use Rattle.blocks.specs.Damping.{diagonal_term};
 ghost use Rattle.edge_compare.specs.Compare.{term_export, map_export, values_export, looked, number_looked, within_looked, slot_looked, place_looked};
 ghost use Rattle.edge.specs.Edge.{Crossed};
 
-use crate::cross::{cross_number, cross_place, cross_slot, cross_term, cross_within};
+use crate::cross::{cross_float, cross_number, cross_place, cross_slot, cross_within};
 use blocks::check::check_blocks;
 use blocks::damping::Damping;
 use blocks::eliminated_blocks::{block_place, damp, gather_from_jacobian};
 use blocks::partition::{eliminated_local, kept_local, slot};
+use blocks::sides::Sides;
+use columns::lent::Columns;
 use edge::cross::cross_answer;
 
 // Checks columns and blocks, and fills the map.
@@ -32,7 +34,14 @@ pub fn pivotfern_check_blocks(
         let told : Crossed = record { number = result; first = first.new; second = second.new } in
         record { told = told; left = map.new } ≡ map_export (check_blocks m kept.now elims.now map.old) }
 {
-    let answer = check_blocks(nrows, ptrs, rows, values, kept, elims, map);
+    let columns = Columns {
+        nrows,
+        ptrs,
+        rows,
+        values,
+    };
+    let sides = Sides { kept, elims };
+    let answer = check_blocks(columns, sides, map);
     cross_answer(answer, first, second)
 }
 
@@ -46,7 +55,8 @@ pub fn pivotfern_slot(
 ) -> u32
     ensures { looked result first.new second.new ≡ slot_looked (slot_of kept.now elims.now column) }
 {
-    let answer = slot(kept, elims, column);
+    let sides = Sides { kept, elims };
+    let answer = slot(sides, column);
     cross_slot(answer, first, second)
 }
 
@@ -104,7 +114,14 @@ pub fn pivotfern_gather_from_jacobian(
         record { told = told; left = (map.new, out.new) }
         ≡ values_export (gather_from_jacobian m kept.now elims.now map.old out.old) }
 {
-    let answer = gather_from_jacobian(nrows, ptrs, rows, values, kept, elims, map, out);
+    let columns = Columns {
+        nrows,
+        ptrs,
+        rows,
+        values,
+    };
+    let sides = Sides { kept, elims };
+    let answer = gather_from_jacobian(columns, sides, map, out);
     cross_answer(answer, first, second)
 }
 
@@ -130,12 +147,15 @@ pub fn pivotfern_damp(
         ≡ values_export
         (damp_values m kept.now elims.now map.old (record { lambda = lambda; min = min; max = max }) out.old) }
 {
-    let damping = Damping {
-        lambda: lambda,
-        min: min,
-        max: max,
+    let columns = Columns {
+        nrows,
+        ptrs,
+        rows,
+        values,
     };
-    let answer = damp(nrows, ptrs, rows, values, kept, elims, map, damping, out);
+    let sides = Sides { kept, elims };
+    let damping = Damping { lambda, min, max };
+    let answer = damp(columns, sides, map, damping, out);
     cross_answer(answer, first, second)
 }
 
@@ -153,10 +173,6 @@ pub fn pivotfern_diagonal_term(
         record { told = told; left = res.new }
         ≡ term_export (diagonal_term (record { lambda = lambda; min = min; max = max }) value) res.old }
 {
-    let damping = Damping {
-        lambda: lambda,
-        min: min,
-        max: max,
-    };
-    cross_term(damping.diagonal_term(value), res, first, second)
+    let damping = Damping { lambda, min, max };
+    cross_float(damping.diagonal_term(value), res, first, second)
 }

@@ -5,9 +5,10 @@ ghost use Rattle.columns.specs.JacobianOps.{column_dot, jt_vec, diag_jt_j, jt_j_
 ghost use Rattle.edge.specs.Edge.{Crossed, crossed};
 ghost use Rattle.edge_compare.specs.Compare.{dot_export, left_export, rows_export};
 
-use crate::cross::cross_dot;
+use crate::cross::cross_float;
 use columns::check::check_columns;
 use columns::jacobian_ops::{column_dot, diag_jt_j, jt_j_vec_product, jt_vec};
+use columns::lent::Columns;
 use edge::cross::cross_answer;
 
 // Whether the columns keep the rules.
@@ -22,7 +23,13 @@ pub fn pivotfern_check_columns(
     ensures { let m = columns_of nrows ptrs.now rows.now values.now in
         record { number = result; first = first.new; second = second.new } ≡ crossed (checked m) }
 {
-    let answer = check_columns(nrows, ptrs, rows, values);
+    let columns = Columns {
+        nrows,
+        ptrs,
+        rows,
+        values,
+    };
+    let answer = check_columns(columns);
     cross_answer(answer, first, second)
 }
 
@@ -42,12 +49,13 @@ pub fn pivotfern_column_dot(
         let told : Crossed = record { number = result; first = first.new; second = second.new } in
         record { told = told; left = res.new } ≡ dot_export (column_dot m a b) res.old }
 {
-    cross_dot(
-        column_dot(nrows, ptrs, rows, values, a, b),
-        res,
-        first,
-        second,
-    )
+    let columns = Columns {
+        nrows,
+        ptrs,
+        rows,
+        values,
+    };
+    cross_float(column_dot(columns, a, b), res, first, second)
 }
 
 // The columns times a vector over the rows.
@@ -65,7 +73,13 @@ pub fn pivotfern_jt_vec(
         let told : Crossed = record { number = result; first = first.new; second = second.new } in
         record { told = told; left = out.new } ≡ left_export (jt_vec m v.now out.old) }
 {
-    let answer = jt_vec(nrows, ptrs, rows, values, v, out);
+    let columns = Columns {
+        nrows,
+        ptrs,
+        rows,
+        values,
+    };
+    let answer = jt_vec(columns, v, out);
     cross_answer(answer, first, second)
 }
 
@@ -83,7 +97,13 @@ pub fn pivotfern_diag_jt_j(
         let told : Crossed = record { number = result; first = first.new; second = second.new } in
         record { told = told; left = out.new } ≡ left_export (diag_jt_j m out.old) }
 {
-    let answer = diag_jt_j(nrows, ptrs, rows, values, out);
+    let columns = Columns {
+        nrows,
+        ptrs,
+        rows,
+        values,
+    };
+    let answer = diag_jt_j(columns, out);
     cross_answer(answer, first, second)
 }
 
@@ -104,6 +124,12 @@ pub fn pivotfern_jt_j_vec_product(
         record { told = told; left = (y.new, out.new) }
         ≡ rows_export (jt_j_vec_product m v.now y.old out.old) }
 {
-    let answer = jt_j_vec_product(nrows, ptrs, rows, values, v, y, out);
+    let columns = Columns {
+        nrows,
+        ptrs,
+        rows,
+        values,
+    };
+    let answer = jt_j_vec_product(columns, v, y, out);
     cross_answer(answer, first, second)
 }

@@ -1,49 +1,31 @@
 // How the answers cross that have more than a number and two values, or are those of a lookup.
 ghost use Rattle.std.specs.Prelude.{◌≡◌};
 ghost use Rattle.columns.specs.JacobianOps.{dotted};
-ghost use Rattle.blocks.specs.Damping.{termed};
 ghost use Rattle.products.specs.Side.{eliminated};
-ghost use Rattle.edge_compare.specs.Compare.{dot_export, term_export, by_number, looked, number_looked, within_looked, slot_looked, place_looked};
+ghost use Rattle.edge_compare.specs.Compare.{dot_export, by_number, looked, number_looked, within_looked, slot_looked, place_looked};
 ghost use Rattle.edge.specs.Edge.{Crossed};
 
-use blocks::damping::DiagonalTerm;
 use blocks::eliminated_blocks::Place;
-use blocks::partition::{ColSlot, Number, Within};
-use columns::jacobian_ops::Dot;
-use columns::refusal::Answer;
+use blocks::partition::ColSlot;
+use columns::refusal::{Refusal, Side};
 use edge::cross::{cross_answer, cross_refusal};
-use products::side::Side;
 
-// A sum, or a refusal that leaves `res` as it was.
-pub(crate) fn cross_dot(dot: Dot, res: &mut f64, first: &mut u64, second: &mut u64) -> u32
-    ensures { let told : Crossed = record { number = result; first = first.new; second = second.new } in
-        record { told = told; left = res.new } ≡ dot_export (dotted dot) res.old }
-{
-    match dot {
-        Dot::Sum(x) => {
-            *res = x;
-            cross_answer(Answer::Done, first, second)
-        }
-        Dot::Refused(r) => cross_refusal(r, first, second),
-    }
-}
-
-// A damping term likewise.
-pub(crate) fn cross_term(
-    term: DiagonalTerm,
+// A number, or a refusal that leaves `res` as it was.
+pub(crate) fn cross_float(
+    answer: Result<f64, Refusal>,
     res: &mut f64,
     first: &mut u64,
     second: &mut u64,
 ) -> u32
     ensures { let told : Crossed = record { number = result; first = first.new; second = second.new } in
-        record { told = told; left = res.new } ≡ term_export (termed term) res.old }
+        record { told = told; left = res.new } ≡ dot_export (dotted answer) res.old }
 {
-    match term {
-        DiagonalTerm::Term(x) => {
+    match answer {
+        Ok(x) => {
             *res = x;
-            cross_answer(Answer::Done, first, second)
+            cross_answer(Ok(()), first, second)
         }
-        DiagonalTerm::Refused(r) => cross_refusal(r, first, second),
+        Err(r) => cross_refusal(r, first, second),
     }
 }
 
@@ -57,33 +39,35 @@ fn cross_looked(kind: u32, a: usize, b: usize, first: &mut u64, second: &mut u64
 }
 
 // A number, where there is one.
-pub(crate) fn cross_number(number: Number, first: &mut u64, second: &mut u64) -> u32
+pub(crate) fn cross_number(number: Option<usize>, first: &mut u64, second: &mut u64) -> u32
     ensures { looked result first.new second.new ≡ number_looked number }
 {
     match number {
-        Number::Is(local) => cross_looked(1, local, 0, first, second),
-        Number::Nothing => cross_looked(0, 0, 0, first, second),
+        Some(local) => cross_looked(1, local, 0, first, second),
+        None => cross_looked(0, 0, 0, first, second),
     }
 }
 
 // A place in a block, where there is one.
-pub(crate) fn cross_within(within: Within, first: &mut u64, second: &mut u64) -> u32
+pub(crate) fn cross_within(within: Option<(usize, usize)>, first: &mut u64, second: &mut u64) -> u32
     ensures { looked result first.new second.new ≡ within_looked within }
 {
     match within {
-        Within::At { block, offset } => cross_looked(2, block, offset, first, second),
-        Within::Nothing => cross_looked(0, 0, 0, first, second),
+        Some((block, offset)) => cross_looked(2, block, offset, first, second),
+        None => cross_looked(0, 0, 0, first, second),
     }
 }
 
 // Either of these.
-pub(crate) fn cross_slot(slot: ColSlot, first: &mut u64, second: &mut u64) -> u32
+pub(crate) fn cross_slot(slot: Option<ColSlot>, first: &mut u64, second: &mut u64) -> u32
     ensures { looked result first.new second.new ≡ slot_looked slot }
 {
     match slot {
-        ColSlot::Kept { local } => cross_looked(1, local, 0, first, second),
-        ColSlot::Eliminated { block, offset } => cross_looked(2, block, offset, first, second),
-        ColSlot::Nothing => cross_looked(0, 0, 0, first, second),
+        Some(ColSlot::Kept { local }) => cross_looked(1, local, 0, first, second),
+        Some(ColSlot::Eliminated { block, offset }) => {
+            cross_looked(2, block, offset, first, second)
+        }
+        None => cross_looked(0, 0, 0, first, second),
     }
 }
 

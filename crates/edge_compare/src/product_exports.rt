@@ -8,7 +8,10 @@ ghost use Rattle.plan.specs.Spans.{spread_of};
 ghost use Rattle.edge.specs.Edge.{Crossed};
 
 use crate::cross::side_of;
+use blocks::sides::Sides;
+use columns::lent::Columns;
 use edge::cross::cross_answer;
+use plan::lent::Spans;
 use products::coupling::{apply_eliminated_inverse, coupling_times, coupling_transpose_times};
 use products::order::{step, sweep};
 
@@ -34,9 +37,14 @@ pub fn pivotfern_apply_eliminated_inverse(
         (apply_eliminated_inverse m kept.now elims.now map.old b.now inverses.now
         out.old) }
 {
-    let answer = apply_eliminated_inverse(
-        nrows, ptrs, rows, values, kept, elims, map, b, inverses, out,
-    );
+    let columns = Columns {
+        nrows,
+        ptrs,
+        rows,
+        values,
+    };
+    let sides = Sides { kept, elims };
+    let answer = apply_eliminated_inverse(columns, sides, map, b, inverses, out);
     cross_answer(answer, first, second)
 }
 
@@ -61,7 +69,14 @@ pub fn pivotfern_coupling_times(
         ≡ coupled_export
         (coupling true m kept.now elims.now map.old u.now y.old out.old) }
 {
-    let answer = coupling_times(nrows, ptrs, rows, values, kept, elims, map, u, y, out);
+    let columns = Columns {
+        nrows,
+        ptrs,
+        rows,
+        values,
+    };
+    let sides = Sides { kept, elims };
+    let answer = coupling_times(columns, sides, map, u, y, out);
     cross_answer(answer, first, second)
 }
 
@@ -86,7 +101,14 @@ pub fn pivotfern_coupling_transpose_times(
         ≡ coupled_export
         (coupling false m kept.now elims.now map.old v.now y.old out.old) }
 {
-    let answer = coupling_transpose_times(nrows, ptrs, rows, values, kept, elims, map, v, y, out);
+    let columns = Columns {
+        nrows,
+        ptrs,
+        rows,
+        values,
+    };
+    let sides = Sides { kept, elims };
+    let answer = coupling_transpose_times(columns, sides, map, v, y, out);
     cross_answer(answer, first, second)
 }
 
@@ -120,21 +142,26 @@ pub fn pivotfern_step(
         (step_of (by_number side) m kept.now elims.now chunk_len map.old v.now lent y.old
         progress.old chunk) }
 {
-    let answer = step(
-        side_of(side),
+    let columns = Columns {
         nrows,
         ptrs,
         rows,
         values,
-        kept,
-        elims,
+    };
+    let sides = Sides { kept, elims };
+    let answer = step(
+        side_of(side),
+        columns,
+        sides,
         map,
         chunk_len,
         v,
-        starts,
-        lo,
-        hi,
-        local,
+        Spans {
+            starts,
+            lo,
+            hi,
+            local,
+        },
         y,
         progress,
         chunk,
@@ -172,21 +199,26 @@ pub fn pivotfern_sweep(
         (sweep_of (by_number side) m kept.now elims.now chunk_len map.old v.now lent y.old
         progress.old order.now) }
 {
-    let answer = sweep(
-        side_of(side),
+    let columns = Columns {
         nrows,
         ptrs,
         rows,
         values,
-        kept,
-        elims,
+    };
+    let sides = Sides { kept, elims };
+    let answer = sweep(
+        side_of(side),
+        columns,
+        sides,
         map,
         chunk_len,
         v,
-        starts,
-        lo,
-        hi,
-        local,
+        Spans {
+            starts,
+            lo,
+            hi,
+            local,
+        },
         y,
         progress,
         order,

@@ -1,5 +1,4 @@
 -- The one theorem over the hall's table, and what the self-check's proofs share.
 pub mod HallTable
-mod SameRules
 mod CaseRules
 mod Determined

@@ -6,19 +6,18 @@ ghost use Rattle.hall.specs.Hall.{hall, columns_with, kept, elims, operands, unu
 ghost use Rattle.hall.specs.Calls.{plan_outcome, operator_outcome, sweep_outcome};
 
 use crate::tables::{
-    CHUNK_LEN, ELIMS, ELIMS_HI, ELIMS_LO, ELIMS_LOCAL, INVERSES, KEPT, KEPT_HI, KEPT_LO,
-    KEPT_LOCAL, NROWS, PTRS, ROWS, STARTS, UNUSED, UNUSED_ROW, V, VALUES,
+    CHUNK_LEN, COLUMNS, ELIMS_SPANS, INVERSES, KEPT_SPANS, SIDES, UNUSED, UNUSED_ROW, V,
 };
-use columns::refusal::Answer;
-use plan::structure::{Planned, plan};
+use columns::lent::Columns;
+use columns::refusal::{Refusal, Side};
+use plan::structure::{SpanCounts, plan};
 use products::operator::apply_schur_operator;
 use products::order::sweep;
-use products::side::Side;
 
 // What planning answers, and its seventeen buffers.
 #[derive(Drop)]
 pub struct HallPlan {
-    pub answer: Planned,
+    pub answer: Result<SpanCounts, Refusal>,
     pub map: [u32; 3],
     pub kept_cols: [u32; 3],
     pub elims_cols: [u32; 3],
@@ -60,12 +59,8 @@ pub(crate) fn plan_hall(rows: &[u32]) -> HallPlan
     let mut elims_hi = [UNUSED; 8];
     let mut elims_local = [UNUSED; 8];
     let answer = plan(
-        NROWS,
-        &PTRS,
-        rows,
-        &VALUES,
-        &KEPT,
-        &ELIMS,
+        Columns { rows, ..COLUMNS },
+        SIDES,
         CHUNK_LEN,
         &mut map,
         &mut kept_cols,
@@ -86,31 +81,31 @@ pub(crate) fn plan_hall(rows: &[u32]) -> HallPlan
         &mut elims_local,
     );
     HallPlan {
-        answer: answer,
-        map: map,
-        kept_cols: kept_cols,
-        elims_cols: elims_cols,
-        elims_blocks: elims_blocks,
-        owners: owners,
-        row_list: row_list,
-        row_starts: row_starts,
-        visible: visible,
-        visible_starts: visible_starts,
-        kept_starts: kept_starts,
-        kept_lo: kept_lo,
-        kept_hi: kept_hi,
-        kept_local: kept_local,
-        elims_starts: elims_starts,
-        elims_lo: elims_lo,
-        elims_hi: elims_hi,
-        elims_local: elims_local,
+        answer,
+        map,
+        kept_cols,
+        elims_cols,
+        elims_blocks,
+        owners,
+        row_list,
+        row_starts,
+        visible,
+        visible_starts,
+        kept_starts,
+        kept_lo,
+        kept_hi,
+        kept_local,
+        elims_starts,
+        elims_lo,
+        elims_hi,
+        elims_local,
     }
 }
 
 // What the operator answers, and its buffers.
 #[derive(Drop)]
 pub struct HallWork {
-    pub answer: Answer,
+    pub answer: Result<(), Refusal>,
     pub map: [u32; 3],
     pub rows: [f64; 5],
     pub t: [f64; 2],
@@ -128,44 +123,34 @@ pub(crate) fn operate(d: &[f64]) -> HallWork
     let mut u = [UNUSED_ROW; 2];
     let mut out = [UNUSED_ROW; 1];
     let answer = apply_schur_operator(
-        NROWS,
-        &PTRS,
-        &ROWS,
-        &VALUES,
-        &KEPT,
-        &ELIMS,
+        COLUMNS,
+        SIDES,
         &mut map,
         CHUNK_LEN,
         &V,
         &INVERSES,
         d,
-        &STARTS,
-        &KEPT_LO,
-        &KEPT_HI,
-        &KEPT_LOCAL,
-        &STARTS,
-        &ELIMS_LO,
-        &ELIMS_HI,
-        &ELIMS_LOCAL,
+        KEPT_SPANS,
+        ELIMS_SPANS,
         &mut rows,
         &mut t,
         &mut u,
         &mut out,
     );
     HallWork {
-        answer: answer,
-        map: map,
-        rows: rows,
-        t: t,
-        u: u,
-        out: out,
+        answer,
+        map,
+        rows,
+        t,
+        u,
+        out,
     }
 }
 
 // What a sweep answers, and its buffers.
 #[derive(Drop)]
 pub struct HallSweep {
-    pub answer: Answer,
+    pub answer: Result<(), Refusal>,
     pub map: [u32; 3],
     pub rows: [f64; 5],
     pub progress: [u32; 3],
@@ -180,27 +165,20 @@ pub(crate) fn sweep_kept(order: &[u32]) -> HallSweep
     let mut progress = [UNUSED; 3];
     let answer = sweep(
         Side::Kept,
-        NROWS,
-        &PTRS,
-        &ROWS,
-        &VALUES,
-        &KEPT,
-        &ELIMS,
+        COLUMNS,
+        SIDES,
         &mut map,
         CHUNK_LEN,
         &V,
-        &STARTS,
-        &KEPT_LO,
-        &KEPT_HI,
-        &KEPT_LOCAL,
+        KEPT_SPANS,
         &mut rows,
         &mut progress,
         order,
     );
     HallSweep {
-        answer: answer,
-        map: map,
-        rows: rows,
-        progress: progress,
+        answer,
+        map,
+        rows,
+        progress,
     }
 }

@@ -1,19 +1,20 @@
 // Document 01's proved cases, one function each: the call, and whether what it gave is the tables'.
-ghost use Rattle.std.specs.Prelude.{◌≡◌, true};
+ghost use Rattle.std.specs.Prelude.{◌≡◌, ◌↔◌, IsTrue, true};
 ghost use Rattle.hall.specs.Hall.{swept_along};
-ghost use Rattle.hall.specs.Same.{numbers_of, tells};
+ghost use Rattle.hall.specs.Same.{numbers_of};
 
 use crate::calls::{operate, plan_hall, sweep_kept};
-use crate::same::{Numbers, answer_numbers, is_sum, plan_numbers, same, same_floats};
+use crate::same::{Numbers, is_sum, same_floats};
 use crate::tables::{
-    CONNECTED, COUPLED, DAMPED, DAMPING, DIAGONAL, DONE, DOT_0_1, DOT_0_2, ELIMS, ELIMS_HI,
-    ELIMS_LO, ELIMS_LOCAL, FIRST_ROWS, KEPT, KEPT_HI, KEPT_LO, KEPT_LOCAL, LAST_ROWS, MOVED, NROWS,
-    ORDER, OUT, OWNERS, PAST, PAST_ANSWER, PLANNED, PTRS, REPEATED, REPEATED_ANSWER, ROW_LIST,
-    ROW_STARTS, ROWS, SHORT, SHORT_ANSWER, STARTS, T, TWICE, TWICE_ANSWER, U, UNUSED, UNUSED_ROW,
-    V, VALUES, VISIBLE, VISIBLE_STARTS, W,
+    COLUMNS, CONNECTED, COUPLED, DAMPED, DAMPING, DIAGONAL, DONE, DOT_0_1, DOT_0_2, ELIMS_HI,
+    ELIMS_LO, ELIMS_LOCAL, FIRST_ROWS, KEPT_HI, KEPT_LO, KEPT_LOCAL, LAST_ROWS, MOVED, ORDER, OUT,
+    OWNERS, PAST, PAST_ANSWER, PLANNED, REPEATED, REPEATED_ANSWER, ROW_LIST, ROW_STARTS, ROWS,
+    SHORT, SHORT_ANSWER, SIDES, STARTS, T, TWICE, TWICE_ANSWER, U, UNUSED, UNUSED_ROW, V, VISIBLE,
+    VISIBLE_STARTS, W,
 };
 use columns::check::check_columns;
 use columns::jacobian_ops::{column_dot, diag_jt_j};
+use columns::lent::Columns;
 use products::coupling::{coupling_times, coupling_transpose_times};
 
 // Owners, row lists and the visible list.
@@ -21,11 +22,11 @@ pub(crate) fn case1() -> bool
     ensures { result ≡ true }
 {
     let p = plan_hall(&ROWS);
-    same(&p.owners, &OWNERS)
-        & same(&p.row_list, &ROW_LIST)
-        & same(&p.row_starts, &ROW_STARTS)
-        & same(&p.visible, &VISIBLE)
-        & same(&p.visible_starts, &VISIBLE_STARTS)
+    p.owners.starts_with(&OWNERS)
+        & p.row_list.starts_with(&ROW_LIST)
+        & p.row_starts.starts_with(&ROW_STARTS)
+        & p.visible.starts_with(&VISIBLE)
+        & p.visible_starts.starts_with(&VISIBLE_STARTS)
 }
 
 // Both sides' spans in chunks of two rows: three each.
@@ -33,16 +34,15 @@ pub(crate) fn case2() -> bool
     ensures { result ≡ true }
 {
     let p = plan_hall(&ROWS);
-    let answer = p.answer;
-    plan_numbers(answer).are(PLANNED)
-        & same(&p.kept_starts, &STARTS)
-        & same(&p.kept_lo, &KEPT_LO)
-        & same(&p.kept_hi, &KEPT_HI)
-        & same(&p.kept_local, &KEPT_LOCAL)
-        & same(&p.elims_starts, &STARTS)
-        & same(&p.elims_lo, &ELIMS_LO)
-        & same(&p.elims_hi, &ELIMS_HI)
-        & same(&p.elims_local, &ELIMS_LOCAL)
+    (Numbers::from(p.answer) == PLANNED)
+        & p.kept_starts.starts_with(&STARTS)
+        & p.kept_lo.starts_with(&KEPT_LO)
+        & p.kept_hi.starts_with(&KEPT_HI)
+        & p.kept_local.starts_with(&KEPT_LOCAL)
+        & p.elims_starts.starts_with(&STARTS)
+        & p.elims_lo.starts_with(&ELIMS_LO)
+        & p.elims_hi.starts_with(&ELIMS_HI)
+        & p.elims_local.starts_with(&ELIMS_LOCAL)
 }
 
 // The operator, without damping and with.
@@ -51,14 +51,12 @@ pub(crate) fn case3() -> bool
 {
     let w = operate(&[]);
     let d = operate(&DAMPING);
-    let plain = w.answer;
-    let damped = d.answer;
-    answer_numbers(plain).are(DONE)
+    (Numbers::from(w.answer) == DONE)
         & same_floats(&w.t, &T)
         & same_floats(&w.u, &U)
         & same_floats(&w.rows, &LAST_ROWS)
         & same_floats(&w.out, &OUT)
-        & answer_numbers(damped).are(DONE)
+        & (Numbers::from(d.answer) == DONE)
         & same_floats(&d.out, &DAMPED)
 }
 
@@ -69,10 +67,8 @@ fn case4_times() -> bool
     let mut map = [UNUSED; 3];
     let mut rows = [UNUSED_ROW; 5];
     let mut out = [UNUSED_ROW; 1];
-    let answer = coupling_times(
-        NROWS, &PTRS, &ROWS, &VALUES, &KEPT, &ELIMS, &mut map, &W, &mut rows, &mut out,
-    );
-    answer_numbers(answer).are(DONE) & same_floats(&out, &COUPLED)
+    let answer = coupling_times(COLUMNS, SIDES, &mut map, &W, &mut rows, &mut out);
+    (Numbers::from(answer) == DONE) & same_floats(&out, &COUPLED)
 }
 
 // Its transpose times v; the rows end as case 3's kept sweep leaves them.
@@ -82,10 +78,8 @@ fn case4_transpose() -> bool
     let mut map = [UNUSED; 3];
     let mut rows = [UNUSED_ROW; 5];
     let mut out = [UNUSED_ROW; 2];
-    let answer = coupling_transpose_times(
-        NROWS, &PTRS, &ROWS, &VALUES, &KEPT, &ELIMS, &mut map, &V, &mut rows, &mut out,
-    );
-    answer_numbers(answer).are(DONE) & same_floats(&rows, &FIRST_ROWS) & same_floats(&out, &T)
+    let answer = coupling_transpose_times(COLUMNS, SIDES, &mut map, &V, &mut rows, &mut out);
+    (Numbers::from(answer) == DONE) & same_floats(&rows, &FIRST_ROWS) & same_floats(&out, &T)
 }
 
 // Both coupling products.
@@ -99,13 +93,13 @@ pub(crate) fn case4() -> bool
 pub(crate) fn case5() -> bool
     ensures { result ≡ true }
 {
-    let one = column_dot(NROWS, &PTRS, &ROWS, &VALUES, 0, 1);
-    let two = column_dot(NROWS, &PTRS, &ROWS, &VALUES, 0, 2);
+    let one = column_dot(COLUMNS, 0, 1);
+    let two = column_dot(COLUMNS, 0, 2);
     let mut out = [UNUSED_ROW; 3];
-    let answer = diag_jt_j(NROWS, &PTRS, &ROWS, &VALUES, &mut out);
+    let answer = diag_jt_j(COLUMNS, &mut out);
     is_sum(one, DOT_0_1)
         & is_sum(two, DOT_0_2)
-        & answer_numbers(answer).are(DONE)
+        & (Numbers::from(answer) == DONE)
         & same_floats(&out, &DIAGONAL)
 }
 
@@ -114,17 +108,14 @@ pub(crate) fn case6() -> bool
     ensures { result ≡ true }
 {
     let p = plan_hall(&MOVED);
-    let answer = p.answer;
-    plan_numbers(answer).are(CONNECTED)
+    Numbers::from(p.answer) == CONNECTED
 }
 
 // Whether the kept sweep along an order answers as expected.
 fn sweep_answers(order: &[u32], expected: Numbers) -> bool
-    ensures { result ≡ tells (numbers_of (swept_along order.now).told) expected }
+    ensures { IsTrue result ↔ numbers_of (swept_along order.now).told ≡ expected }
 {
-    let s = sweep_kept(order);
-    let answer = s.answer;
-    answer_numbers(answer).are(expected)
+    Numbers::from(sweep_kept(order).answer) == expected
 }
 
 // The kept sweep along four orders: the first does every span, the others are refused at a place.
@@ -132,8 +123,7 @@ pub(crate) fn case7() -> bool
     ensures { result ≡ true }
 {
     let s = sweep_kept(&ORDER);
-    let answer = s.answer;
-    answer_numbers(answer).are(DONE)
+    (Numbers::from(s.answer) == DONE)
         & same_floats(&s.rows, &FIRST_ROWS)
         & sweep_answers(&TWICE, TWICE_ANSWER)
         & sweep_answers(&SHORT, SHORT_ANSWER)
@@ -144,5 +134,9 @@ pub(crate) fn case7() -> bool
 pub(crate) fn case8() -> bool
     ensures { result ≡ true }
 {
-    answer_numbers(check_columns(NROWS, &PTRS, &REPEATED, &VALUES)).are(REPEATED_ANSWER)
+    let repeated = Columns {
+        rows: &REPEATED,
+        ..COLUMNS
+    };
+    Numbers::from(check_columns(repeated)) == REPEATED_ANSWER
 }

@@ -1,6 +1,9 @@
 // The hall's tables, and document 01's figures of its cases.
 use crate::same::Numbers;
 use blocks::owner::Owner;
+use blocks::sides::Sides;
+use columns::lent::Columns;
+use plan::lent::Spans;
 
 // Five rows, and three columns with eight entries.
 pub const NROWS: usize = 5;
@@ -17,6 +20,19 @@ pub const KEPT: [u32; 2] = [0, 1];
 pub const ELIMS: [u32; 4] = [1, 1, 2, 1];
 
 pub const INVERSES: [f64; 2] = [0.5, 0.25];
+
+// The columns and both sides, as a call is lent them.
+pub const COLUMNS: Columns<'static> = Columns {
+    nrows: NROWS,
+    ptrs: &PTRS,
+    rows: &ROWS,
+    values: &VALUES,
+};
+
+pub const SIDES: Sides<'static> = Sides {
+    kept: &KEPT,
+    elims: &ELIMS,
+};
 
 // What a call answers that is done and has no values to give.
 pub const DONE: Numbers = Numbers {
@@ -53,6 +69,21 @@ pub const ELIMS_LO: [u32; 3] = [4, 6, 7];
 pub const ELIMS_HI: [u32; 3] = [6, 7, 8];
 
 pub const ELIMS_LOCAL: [u32; 3] = [0, 1, 1];
+
+// The spans of either side, as a call is lent them.
+pub const KEPT_SPANS: Spans<'static> = Spans {
+    starts: &STARTS,
+    lo: &KEPT_LO,
+    hi: &KEPT_HI,
+    local: &KEPT_LOCAL,
+};
+
+pub const ELIMS_SPANS: Spans<'static> = Spans {
+    starts: &STARTS,
+    lo: &ELIMS_LO,
+    hi: &ELIMS_HI,
+    local: &ELIMS_LOCAL,
+};
 
 // Case 2: planning is done, with three spans of either side.
 pub const PLANNED: Numbers = Numbers {

@@ -18,8 +18,8 @@ use Rattle.ground.specs.Gather.{list_of}
 use Rattle.ground.proofs.EachLaws.{all_at}
 use Rattle.ground.proofs.GatherLaws.{length-list_of}
 use Rattle.columns.specs.declared.refusal.Refusal.{Refusal}
-use Rattle.columns.specs.declared.refusal.Answer.{Answer}
-use Rattle.columns.specs.declared.refusal.Answer.TheVariants.{Done, Refused}
+use Rattle.columns.specs.Refusals.{Answer}
+use Rattle.std.specs.Prelude.{Option, Ok, Err}
 use Rattle.columns.specs.Refusals.{Told, done, refused, told, Passes, on_pass}
 use Rattle.columns.specs.Columns.{Columns, columns_of, Keeps}
 use Rattle.columns.proofs.RefusalLaws.{pass_refused, passed}
@@ -75,11 +75,11 @@ module _ (m : Columns) (elims o : List ℕ) (f : OwnersIn m elims (length o)) wh
         walked-owners ∙ ap (λ (k : ℕ). list_of (held_at es k) m.nrows ++ rest) q
         ∙ ap (λ (l : List ℕ). l ++ rest) (list_of_same 0 (held_at es (length es)) (owner_of m elims) m.nrows (λ r _. owner-held m elims r))
 
-    pub owners-done : t ≡ Done → owned done o₂ ≡ owners_of m elims o
+    pub owners-done : t ≡ Ok tt → owned done o₂ ≡ owners_of m elims o
     unfolding owners_of on_pass
     owners-done p = let e : done ≡ connected_told es = rw p at walked-told in rw (← e, walked_all e)
 
-    pub owners-refused : (r : Refusal) (o₃ : List ℕ) → t ≡ Refused r → o₃ ≡ marked m.nrows o₂ → owned (refused r) o₃ ≡ owners_of m elims o
+    pub owners-refused : (r : Refusal) (o₃ : List ℕ) → t ≡ Err r → o₃ ≡ marked m.nrows o₂ → owned (refused r) o₃ ≡ owners_of m elims o
     unfolding owners_of
     owners-refused r o₃ p q =
         let e : refused r ≡ connected_told es = rw p at walked-told in

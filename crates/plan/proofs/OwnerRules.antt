@@ -12,8 +12,8 @@ use Rattle.ground.specs.Gather.{gather}
 use Rattle.ground.specs.Fold.{folded}
 use Rattle.ground.proofs.FoldLaws.{folded-one, fold_turn, fold_done}
 use Rattle.columns.specs.declared.refusal.Refusal.{Refusal}
-use Rattle.columns.specs.declared.refusal.Answer.{Answer}
-use Rattle.columns.specs.declared.refusal.Answer.TheVariants.{Done, Refused}
+use Rattle.columns.specs.Refusals.{Answer}
+use Rattle.std.specs.Prelude.{Option, Ok, Err}
 use Rattle.columns.specs.Refusals.{tell, done, refused, told, on_pass}
 use Rattle.columns.specs.Columns.{first_in, end_in}
 use Rattle.columns.specs.Unchecked.{ColumnThere}
@@ -68,10 +68,10 @@ module _ (rows : List ℕ) (b p r : ℕ) (o : List ℕ) (e : r ≡ get_or rows p
 -- ---- loops: f k is the entries of place k, and t what their walk answered
 
 module _ (f : ℕ → List Entry) (k hi : ℕ) (o o' : List ℕ) (z : Owned) (t : Answer) (h : k < hi) (inv : claimed o (gather f k hi) ≡ z) (e : owned (told t) o' ≡ claimed o (f k)) where
-  pub claims_go : t ≡ Done → claimed o' (gather f (k + 1) hi) ≡ z
+  pub claims_go : t ≡ Ok tt → claimed o' (gather f (k + 1) hi) ≡ z
   claims_go p = fold_turn claim_on f (owned done o) h inv (rw p at e)
 
-  pub claims_stop : (r : Refusal) → t ≡ Refused r → owned (refused r) o' ≡ z
+  pub claims_stop : (r : Refusal) → t ≡ Err r → owned (refused r) o' ≡ z
   claims_stop r p = sym (stopped_all (owned (refused r) o') _ (number-some r)) ∙ fold_turn claim_on f (owned done o) h inv (rw p at e)
 
 pub claims_end : (f : ℕ → List Entry) (k hi : ℕ) (o : List ℕ) (z : Owned) → hi ≤ k → claimed o (gather f k hi) ≡ z → owned done o ≡ z

@@ -12,14 +12,12 @@ use borrow.Author.Tests.{eqb-false}
 use Rattle.ground.specs.Gather.{list_of}
 use Rattle.ground.proofs.GatherLaws.{length-list_of}
 use Rattle.columns.specs.declared.refusal.Refusal.{Refusal}
-use Rattle.columns.specs.declared.refusal.Answer.{Answer}
-use Rattle.columns.specs.declared.refusal.Answer.TheVariants.{Done, Refused}
-use Rattle.columns.specs.Refusals.{number, Told, tell, done, refused, told, Passes, on_pass}
+use Rattle.columns.specs.Refusals.{number, Told, tell, done, refused, Passes, on_pass}
 use Rattle.columns.specs.Lengths.{length_of, need_of, no_room_of}
 use Rattle.columns.specs.Columns.{Columns, column_count, entry_count, Keeps}
 use Rattle.columns.proofs.RefusalLaws.{number-some, pass_refused, pass_done}
 use Rattle.columns.proofs.CheckLaws.{passes_keeps}
-use Rattle.columns.proofs.CallLaws.{told-done, room-right}
+use Rattle.columns.proofs.CallLaws.{room-right}
 use Rattle.blocks.specs.Sides.{block_count, cols, side_dof, side_of}
 use Rattle.blocks.specs.Claims.{late_blocks, mark, marked, claims, place_of, parts_told, Parted, Mapped}
 use Rattle.blocks.specs.Walk.{Roomy, walk_blocks}
@@ -53,6 +51,16 @@ pub record Ready (m : Columns) (kept elims : List ℕ) (len : ℕ) (b : Buffers)
   pub chunked : Chunked m.nrows len
   pub roomy : Passes (no_room_of (room m kept elims len b))
 
+-- what the checks told: 1 to 6 passed
+pub record Early (m : Columns) (kept elims : List ℕ) (len : ℕ) (b : Buffers) : Type 0 where
+  pub parts : done ≡ parts_told m kept elims (chunk_told len)
+  pub fits : done ≡ no_room_of (room m kept elims len b)
+
+-- and what the walk told, which passed too: map' is what it left
+pub record Walked (m : Columns) (kept elims : List ℕ) (len : ℕ) (b : Buffers) (map' : List ℕ) : Type 0 where
+  pub early : Early m kept elims len b
+  pub walk : record { told = done; map = map' } ≡ walk_blocks (column_count m) (claims (column_count m) kept elims) b.map
+
 -- the chunks are few
 pub chunks_few : (nrows len : ℕ) → Chunked nrows len → chunk_count_of nrows len ≤ 2_097_152
 unfolding chunk_count_of
@@ -75,35 +83,36 @@ module _ (m : Columns) (kept elims : List ℕ) (len : ℕ) (parts : done ≡ par
   pub early_room : RoomFits m.nrows len (block_count kept) (block_count elims)
   early_room = record { chunked = early_chunked_lem; few-kept = early_blocks false; few-elims = early_blocks true }
 
-  module _ (b : Buffers) (fits : done ≡ no_room_of (room m kept elims len b)) where
-    abbrev roomy : Passes (no_room_of (room m kept elims len b))
-    roomy = ap (λ (t : Told). t.number) (sym fits)
+-- once the buffers have room too
+module _ {m : Columns} {kept elims : List ℕ} {len : ℕ} {b : Buffers} (e : Early m kept elims len b) where
+  abbrev roomy : Passes (no_room_of (room m kept elims len b))
+  roomy = ap (λ (t : Told). t.number) (sym e.fits)
 
-    pub map-room : Roomy (column_count m) (length b.map)
-    unfolding room
-    map-room = record { few = early_keeps.small.few-columns; fits = room-right (room m kept elims len b) roomy 0 (omega arith) }
+  pub map-room : Roomy (column_count m) (length b.map)
+  unfolding room
+  map-room = record { few = (early_keeps m kept elims len e.parts).small.few-columns; fits = room-right (room m kept elims len b) roomy 0 (omega arith) }
 
-    -- map' is what the walk left
-    pub plan_ready : (map' : List ℕ) → record { told = done; map = map' } ≡ walk_blocks (column_count m) (claims (column_count m) kept elims) b.map → Ready m kept elims len b
-    unfolding walk_blocks
-    plan_ready map' e = record {
-      keeps = early_keeps;
-      parted =
-          walk_parted m kept elims (parts_passes m kept elims (chunk_told len) passes).1 (parts_passes m kept elims (chunk_told len) passes).2
-          (ap (λ (w : Mapped). w.told.number) (sym e));
-      chunked = early_chunked_lem;
-      roomy = roomy;
+pub plan_ready : {m : Columns} {kept elims map' : List ℕ} {len : ℕ} {b : Buffers} → Walked m kept elims len b map' → Ready m kept elims len b
+unfolding walk_blocks
+plan_ready {m} {kept} {elims} {map'} {len} {b} w =
+    let parts = w.early.parts in
+    let p = parts_passes m kept elims (chunk_told len) (passes m kept elims len parts) in
+    record {
+      keeps = early_keeps m kept elims len parts;
+      parted = walk_parted m kept elims p.1 p.2 (ap (λ (w : Mapped). w.told.number) (sym w.walk));
+      chunked = early_chunked_lem m kept elims len parts;
+      roomy = roomy w.early;
     }
 
--- the room list as the code has it, with the number n that it was told
-pub room-is : (m : Columns) (kept elims : List ℕ) (len : ℕ) (b : Buffers) (n : ℕ) (t : Told) → n ≡ column_count m
-    → t ≡ no_room_of (room_of n m.nrows (entry_count m) (block_count kept) (block_count elims) (chunk_count_of m.nrows len) b) → t ≡ no_room_of (room m kept elims len b)
+-- the room list as the code has it
+pub room-is : (m : Columns) (kept elims : List ℕ) (len : ℕ) (b : Buffers) (t : Told)
+    → t ≡ no_room_of (room_of (column_count m) m.nrows (entry_count m) (block_count kept) (block_count elims) (chunk_count_of m.nrows len) b) → t ≡ no_room_of (room m kept elims len b)
 unfolding room
-room-is m kept elims len b n t p e = e ∙ rw p
+room-is m kept elims len b t e = e
 
 -- ---- what the functions ask
 
-module _ (m : Columns) (kept elims : List ℕ) (len : ℕ) (b : Buffers) (r : Ready m kept elims len b) where
+module _ {m : Columns} {kept elims : List ℕ} {len : ℕ} {b : Buffers} (r : Ready m kept elims len b) where
   abbrev buffer_room : (k : ℕ) → k < length (room m kept elims len b) / 2 → need_of (room m kept elims len b) k ≤ length_of (room m kept elims len b) k
   buffer_room k h = room-right (room m kept elims len b) r.roomy k h
 
@@ -190,12 +199,6 @@ module _ (m : Columns) (side rest : List ℕ) (len : ℕ) where
 -- ---- a call by how far it gets
 
 module _ (m : Columns) (kept elims : List ℕ) (len : ℕ) (b : Buffers) where
-  abbrev n : ℕ
-  n = column_count m
-
-  abbrev cs : List ℕ
-  cs = claims (column_count m) kept elims
-
   early_stops : (r : Refusal) → plan_early m kept elims len b ≡ refused r → record { told = refused r; left = b } ≡ planned m kept elims len b
   unfolding planned plan_told plan_left
   early_stops r e = rw (e, pass_refused r _ (refused r), pass_refused r _ b)
@@ -204,98 +207,103 @@ module _ (m : Columns) (kept elims : List ℕ) (len : ℕ) (b : Buffers) where
   pub plan_parts : (r : Refusal) → refused r ≡ parts_told m kept elims (chunk_told len) → record { told = refused r; left = b } ≡ planned m kept elims len b
   plan_parts r e = early_stops r (rw (← e) (pass_refused r (no_room_of (room m kept elims len b)) (refused r)))
 
-  module _ (parts : done ≡ parts_told m kept elims (chunk_told len)) where
-    -- 6
-    pub plan-room : (r : Refusal) → refused r ≡ no_room_of (room m kept elims len b) → record { told = refused r; left = b } ≡ planned m kept elims len b
-    unfolding on_pass
-    plan-room r e = early_stops r (rw (← parts, ← e))
+  -- 6
+  pub plan-room : (r : Refusal) → done ≡ parts_told m kept elims (chunk_told len) → refused r ≡ no_room_of (room m kept elims len b) → record { told = refused r; left = b } ≡ planned m kept elims len b
+  unfolding on_pass
+  plan-room r parts e = early_stops r (rw (← parts, ← e))
 
-    module _ (fits : done ≡ no_room_of (room m kept elims len b)) where
-      early_done : plan_early m kept elims len b ≡ done
-      unfolding on_pass
-      early_done = rw (← parts, ← fits)
+-- what the blocks claim
+abbrev claimed : Columns → List ℕ → List ℕ → List ℕ
+claimed m kept elims = claims (column_count m) kept elims
 
-      -- 7 to 9: map' is what the walk left
-      pub plan_walk : (r : Refusal) (map' : List ℕ) → record { told = refused r; map = map' } ≡ walk_blocks n cs b.map → record { told = refused r; left = lent map' b.owners b } ≡ planned m kept elims len b
-      unfolding planned plan_told plan_left walk_blocks
-      plan_walk r map' e =
-          let t : refused r ≡ late_blocks m kept elims = ap (λ (w : Mapped). w.told) e in
-          let q : map' ≡ on_pass (late_blocks m kept elims) (list_of (place_of cs) n) (replicate n mark) ++ drop n b.map = ap (λ (w : Mapped). w.map) e in
-          rw (early_done, q, ← t, pass_refused r (list_of (place_of cs) n) (replicate n mark), pass_refused r _ (refused r), pass_refused r _ (lent (marks n b.map) b.owners b), pass_done done _ done refl, pass_done done _ b refl)
+-- owners' is what `row_owners` left
+module _ (m : Columns) (elims l : List ℕ) {t : Told} {owners' : List ℕ} (own : record { told = t; owners = owners' } ≡ owners_of (pattern_of m.nrows m.ptrs m.rows) elims l) where
+  owned-is : record { told = t; owners = owners' } ≡ owners_of m elims l
+  owned-is = own ∙ owners-values m.nrows m.ptrs m.rows m.values elims l
 
-      module _ (map' : List ℕ) (walk : record { told = done; map = map' } ≡ walk_blocks n cs b.map) where
-        blocks-done : late_blocks m kept elims ≡ done
-        unfolding walk_blocks
-        blocks-done = sym (ap (λ (w : Mapped). w.told) walk)
+  connected-is : t ≡ plan_connected m elims
+  unfolding owners_of
+  connected-is = ap (λ (w : Owned). w.told) owned-is
 
-        pub mapped_is : map' ≡ list_of (place_of cs) n ++ drop n b.map
-        unfolding walk_blocks
-        mapped_is = ap (λ (w : Mapped). w.map) walk ∙ rw (blocks-done, pass_done done (list_of (place_of cs) n) (replicate n mark) refl)
+  pub owners-is : t ≡ done → owners' ≡ owner_list m elims ++ drop m.nrows l
+  owners-is s = ap (λ (w : Owned). w.owners) owned-is ∙ left_pass m elims l (ap (λ (w : Told). w.number) (sym connected-is ∙ s))
 
-        -- owners' is what `row_owners` left
-        module _ (t : Told) (owners' : List ℕ) (own : record { told = t; owners = owners' } ≡ owners_of (pattern_of m.nrows m.ptrs m.rows) elims b.owners) where
-          owned-is : record { told = t; owners = owners' } ≡ owners_of m elims b.owners
-          owned-is = own ∙ owners-values m.nrows m.ptrs m.rows m.values elims b.owners
+module _ {m : Columns} {kept elims : List ℕ} {len : ℕ} {b : Buffers} where
+  early_done : Early m kept elims len b → plan_early m kept elims len b ≡ done
+  unfolding on_pass
+  early_done early = rw (← early.parts, ← early.fits)
 
-          connected-is : t ≡ plan_connected m elims
-          unfolding owners_of
-          connected-is = ap (λ (w : Owned). w.told) owned-is
+  -- 7 to 9: map' is what the walk left
+  pub plan_walk : (r : Refusal) (map' : List ℕ) → Early m kept elims len b → record { told = refused r; map = map' } ≡ walk_blocks (column_count m) (claimed m kept elims) b.map
+      → record { told = refused r; left = lent map' b.owners b } ≡ planned m kept elims len b
+  unfolding planned plan_told plan_left walk_blocks
+  plan_walk r map' early e =
+      let t : refused r ≡ late_blocks m kept elims = ap (λ (w : Mapped). w.told) e in
+      let q : map' ≡ on_pass (late_blocks m kept elims) (list_of (place_of (claimed m kept elims)) (column_count m)) (replicate (column_count m) mark) ++ drop (column_count m) b.map = ap (λ (w : Mapped). w.map) e in
+      rw (early_done early, q, ← t, pass_refused r (list_of (place_of (claimed m kept elims)) (column_count m)) (replicate (column_count m) mark), pass_refused r _ (refused r), pass_refused r _ (lent (marks (column_count m) b.map) b.owners b), pass_done done _ done refl, pass_done done _ b refl)
 
-          -- 10
-          pub plan-connected : (r : Refusal) (map₂ : List ℕ) → t ≡ refused r → map₂ ≡ marked n map' → record { told = refused r; left = lent map₂ owners' b } ≡ planned m kept elims len b
-          unfolding planned plan_told plan_left on_pass
-          plan-connected r map₂ s q =
-              let c : plan_connected m elims ≡ refused r = sym connected-is ∙ s in
-              let o : owners' ≡ marks m.nrows b.owners =
-              ap (λ (w : Owned). w.owners) owned-is ∙ left-refused m elims b.owners (λ p. let z = number-some r in let y : number r ≡ 0 = rw c at p in eqb-false _ _ z y) in
-              let d : drop n map' ≡ drop n b.map = ap (drop n) mapped_is ∙ drop_at (list_of (place_of cs) n) (drop n b.map) n (length-list_of (place_of cs) 0 n) in
-              let h : n ≤ length map' = rw (mapped_is, length-append, length-list_of (place_of cs) 0 n) (omega arith) in
-              let w : map₂ ≡ marks n b.map = q ∙ marked_all n map' h ∙ ap (λ (l : List ℕ). replicate n mark ++ l) d in
-              rw (early_done, blocks-done, c, o, w, number-some r)
+  module _ {map' : List ℕ} (w : Walked m kept elims len b map') where
+    blocks-done : late_blocks m kept elims ≡ done
+    unfolding walk_blocks
+    blocks-done = sym (ap (λ (w : Mapped). w.told) w.walk)
 
-          pub owners-is : t ≡ done → owners' ≡ owner_list m elims ++ drop m.nrows b.owners
-          owners-is s = ap (λ (w : Owned). w.owners) owned-is ∙ left_pass m elims b.owners (ap (λ (w : Told). w.number) (sym connected-is ∙ s))
+    pub mapped_is : map' ≡ list_of (place_of (claimed m kept elims)) (column_count m) ++ drop (column_count m) b.map
+    unfolding walk_blocks
+    mapped_is = ap (λ (w : Mapped). w.map) w.walk ∙ rw (blocks-done, pass_done done (list_of (place_of (claimed m kept elims)) (column_count m)) (replicate (column_count m) mark) refl)
 
-          -- 0: what the others left
-          pub plan_all : t ≡ done → (kn en : ℕ) (z : Buffers) → kn ≡ length (side_spans m kept len) → en ≡ length (side_spans m elims len) → z ≡ plan_of m kept elims len b
-              → record { told = tell 0 (kn ∷ en ∷ []); left = z } ≡ planned m kept elims len b
-          unfolding planned plan_told plan_left on_pass
-          plan_all s kn en z k e q =
-              let c : plan_connected m elims ≡ done = sym connected-is ∙ s in
-              rw (early_done, blocks-done, c, q, k, e)
+    -- owners' is what `row_owners` left
+    module _ {t : Told} {owners' : List ℕ} (own : record { told = t; owners = owners' } ≡ owners_of (pattern_of m.nrows m.ptrs m.rows) elims b.owners) where
+      -- 10
+      pub plan-connected : (r : Refusal) (map₂ : List ℕ) → t ≡ refused r → map₂ ≡ marked (column_count m) map' → record { told = refused r; left = lent map₂ owners' b } ≡ planned m kept elims len b
+      unfolding planned plan_told plan_left on_pass
+      plan-connected r map₂ s q =
+          let c : plan_connected m elims ≡ refused r = sym (connected-is m elims b.owners own) ∙ s in
+          let o : owners' ≡ marks m.nrows b.owners =
+          ap (λ (w : Owned). w.owners) (owned-is m elims b.owners own) ∙ left-refused m elims b.owners (λ p. let z = number-some r in let y : number r ≡ 0 = rw c at p in eqb-false _ _ z y) in
+          let d : drop (column_count m) map' ≡ drop (column_count m) b.map = ap (drop (column_count m)) mapped_is ∙ drop_at (list_of (place_of (claimed m kept elims)) (column_count m)) (drop (column_count m) b.map) (column_count m) (length-list_of (place_of (claimed m kept elims)) 0 (column_count m)) in
+          let h : column_count m ≤ length map' = rw (mapped_is, length-append, length-list_of (place_of (claimed m kept elims)) 0 (column_count m)) (omega arith) in
+          let w₂ : map₂ ≡ marks (column_count m) b.map = q ∙ marked_all (column_count m) map' h ∙ ap (λ (l : List ℕ). replicate (column_count m) mark ++ l) d in
+          rw (early_done w.early, blocks-done, c, o, w₂, number-some r)
 
--- what the functions leave, one after the other, is the plan
+      -- 0: what the others left
+      pub plan_all : t ≡ done → (kn en : ℕ) (z : Buffers) → kn ≡ length (side_spans m kept len) → en ≡ length (side_spans m elims len) → z ≡ plan_of m kept elims len b
+          → record { told = tell 0 (kn ∷ en ∷ []); left = z } ≡ planned m kept elims len b
+      unfolding planned plan_told plan_left on_pass
+      plan_all s kn en z k e q =
+          let c : plan_connected m elims ≡ done = sym (connected-is m elims b.owners own) ∙ s in
+          rw (early_done w.early, blocks-done, c, q, k, e)
+
+-- ---- what the functions leave, one after the other, is the plan
+
+pub listed-count : (side l : List ℕ) {l' : List ℕ} {k : ℕ} → record { count = k; list = l' } ≡ columns_listed side l → k ≡ side_dof side
+unfolding columns_listed
+listed-count _ _ e = ap (λ (w : Counted). w.count) e
+
+pub listed-list : (side l : List ℕ) {l' : List ℕ} {k : ℕ} → record { count = k; list = l' } ≡ columns_listed side l → l' ≡ cols side ++ drop (side_dof side) l
+unfolding columns_listed
+listed-list _ _ e = ap (λ (w : Counted). w.list) e
+
+pub numbered_list : (side l : List ℕ) {l' : List ℕ} {k : ℕ} → record { count = k; list = l' } ≡ blocks_listed side l → l' ≡ column_blocks side ++ drop (side_dof side) l
+unfolding blocks_listed
+numbered_list _ _ e = ap (λ (w : Counted). w.list) e
+
+-- s' is what `spans` left, from the columns cs that `list_columns` left
+module _ (m : Columns) (side l : List ℕ) (len : ℕ) (s : Spread) {cs : List ℕ} {k count : ℕ} {s' : Spread} (e : record { count = k; list = cs } ≡ columns_listed side l) (q : record { count = count; left = s' } ≡ spanned (pattern_of m.nrows m.ptrs m.rows) cs k len s) where
+  side-spanned : ◌≡◌ {A = Spanned} (record { count = count; left = s' }) (record { count = length (side_spans m side len); left = spread (chunk_spans m side len) (chunk_count_of m.nrows len) s })
+  side-spanned = q ∙ rw (listed-list side l e, listed-count side l e) (spanned-side m side (drop (side_dof side) l) len s)
+
+  pub span_count_lem : count ≡ length (side_spans m side len)
+  span_count_lem = ap (λ (w : Spanned). w.count) side-spanned
+
+  pub span_lists : s' ≡ spread (chunk_spans m side len) (chunk_count_of m.nrows len) s
+  span_lists = ap (λ (w : Spanned). w.left) side-spanned
+
+module _ (m : Columns) (elims owners list starts : List ℕ) where
+  pub rows-listed : {owners' : List ℕ} {l : Listed} → owners' ≡ owner_list m elims ++ drop m.nrows owners
+      → l ≡ listed (rows_with owners' m.nrows) (block_count elims) list starts → l ≡ listed (rows_of m elims) (block_count elims) list starts
+  rows-listed e q = q ∙ rw e (lists_of_lem m elims (drop m.nrows owners) (block_count elims) list starts)
+
 module _ (m : Columns) (kept elims : List ℕ) (len : ℕ) (b : Buffers) where
-  abbrev pattern : Columns
-  pattern = pattern_of m.nrows m.ptrs m.rows
-
-  pub listed-count : (side l l' : List ℕ) (k : ℕ) → record { count = k; list = l' } ≡ columns_listed side l → k ≡ side_dof side
-  unfolding columns_listed
-  listed-count side l l' k e = ap (λ (w : Counted). w.count) e
-
-  pub listed-list : (side l l' : List ℕ) (k : ℕ) → record { count = k; list = l' } ≡ columns_listed side l → l' ≡ cols side ++ drop (side_dof side) l
-  unfolding columns_listed
-  listed-list side l l' k e = ap (λ (w : Counted). w.list) e
-
-  pub numbered_list : (side l l' : List ℕ) (k : ℕ) → record { count = k; list = l' } ≡ blocks_listed side l → l' ≡ column_blocks side ++ drop (side_dof side) l
-  unfolding blocks_listed
-  numbered_list side l l' k e = ap (λ (w : Counted). w.list) e
-
-  -- s' is what `spans` left, from the columns cs that `list_columns` left
-  module _ (side l cs : List ℕ) (k count : ℕ) (s s' : Spread) (e : record { count = k; list = cs } ≡ columns_listed side l) (q : record { count = count; left = s' } ≡ spanned pattern cs k len s) where
-    side-spanned : ◌≡◌ {A = Spanned} (record { count = count; left = s' }) (record { count = length (side_spans m side len); left = spread (chunk_spans m side len) (chunk_count_of m.nrows len) s })
-    side-spanned = q ∙ rw (listed-list side l cs k e, listed-count side l cs k e) (spanned-side m side (drop (side_dof side) l) len s)
-
-    pub span_count_lem : count ≡ length (side_spans m side len)
-    span_count_lem = ap (λ (w : Spanned). w.count) side-spanned
-
-    pub span_lists : s' ≡ spread (chunk_spans m side len) (chunk_count_of m.nrows len) s
-    span_lists = ap (λ (w : Spanned). w.left) side-spanned
-
-  pub rows-listed : (owners' : List ℕ) (l : Listed) → owners' ≡ owner_list m elims ++ drop m.nrows b.owners
-      → l ≡ listed (rows_with owners' m.nrows) (block_count elims) b.row_lists.list b.row_lists.starts → l ≡ listed (rows_of m elims) (block_count elims) b.row_lists.list b.row_lists.starts
-  rows-listed owners' l e q = q ∙ rw e (lists_of_lem m elims (drop m.nrows b.owners) (block_count elims) b.row_lists.list b.row_lists.starts)
-
   pub plan_of_lem : (z : Buffers) → z.map ≡ list_of (place_of (claims (column_count m) kept elims)) (column_count m) ++ drop (column_count m) b.map → z.kept_cols ≡ cols kept ++ drop (side_dof kept) b.kept_cols
       → z.elims_cols ≡ cols elims ++ drop (side_dof elims) b.elims_cols → z.elims_blocks ≡ column_blocks elims ++ drop (side_dof elims) b.elims_blocks
       → z.owners ≡ owner_list m elims ++ drop m.nrows b.owners → z.row_lists ≡ listed (rows_of m elims) (block_count elims) b.row_lists.list b.row_lists.starts
@@ -303,19 +311,3 @@ module _ (m : Columns) (kept elims : List ℕ) (len : ℕ) (b : Buffers) where
       → z.elims ≡ spread (chunk_spans m elims len) (chunk_count_of m.nrows len) b.elims → z ≡ plan_of m kept elims len b
   unfolding plan_of
   plan_of_lem z p₁ p₂ p₃ p₄ p₅ p₆ p₇ p₈ p₉ = rw (← p₁, ← p₂, ← p₃, ← p₄, ← p₅, ← p₆, ← p₇, ← p₈, ← p₉)
-
--- ---- what the calls told, as the code found it
-
-pub parts_fact : (rest parts : Answer) (m : Columns) (kept elims : List ℕ) (len : ℕ) → told rest ≡ chunk_told len → told parts ≡ parts_told m kept elims (told rest) → parts ≡ Done → done ≡ parts_told m kept elims (chunk_told len)
-parts_fact rest parts m kept elims len e q d = told-done parts _ (rw e at q) d
-
-pub room_fact : (fits : Answer) (m : Columns) (kept elims : List ℕ) (len : ℕ) (b : Buffers) (n : ℕ) → n ≡ column_count m
-    → told fits ≡ no_room_of (room_of n m.nrows (entry_count m) (block_count kept) (block_count elims) (chunk_count_of m.nrows len) b) → fits ≡ Done → done ≡ no_room_of (room m kept elims len b)
-room_fact fits m kept elims len b n p e d = told-done fits _ (room-is m kept elims len b n (told fits) p e) d
-
-module _ (walked : Answer) (kept elims map map' : List ℕ) (n k : ℕ) (e : n ≡ k) (q : record { told = told walked; map = map' } ≡ walk_blocks n (claims n kept elims) map) where
-  pub walk_fact : walked ≡ Done → record { told = done; map = map' } ≡ walk_blocks k (claims k kept elims) map
-  walk_fact d = rw (← e) (rw d at q)
-
-  pub walk_refused_fact : (r : Refusal) → walked ≡ Refused r → record { told = refused r; map = map' } ≡ walk_blocks k (claims k kept elims) map
-  walk_refused_fact r d = rw (← e) (rw d at q)

@@ -2,6 +2,7 @@
 pub mod Owners
 pub mod Lists
 pub mod Spans
+pub mod LentSpans
 pub mod Plan
 -- what the code's own functions do and ask, which no entry point's promise names
 pub mod OwnerWalk

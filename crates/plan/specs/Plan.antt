@@ -6,8 +6,9 @@ use Rattle.columns.specs.Lengths.{no_room_of}
 use Rattle.columns.specs.Columns.{Columns, column_count, entry_count}
 use Rattle.blocks.specs.Sides.{block_count, dof_of, cols, side_dof}
 use Rattle.blocks.specs.Claims.{late_blocks, mark, claims, place_of, parts_told}
-use Rattle.plan.specs.declared.structure.Planned.{Planned}
-use Rattle.plan.specs.declared.structure.Planned.TheVariants.{Done, Refused}
+use Rattle.std.specs.Prelude.{Result, Ok, Err}
+use Rattle.columns.specs.declared.refusal.Refusal.{Refusal}
+use Rattle.plan.specs.declared.structure.SpanCounts.{SpanCounts}
 use Rattle.plan.specs.Owners.{side_entries, connected_told, owner_list}
 use Rattle.plan.specs.Lists.{Listed, listed, rows_of, visible_of}
 use Rattle.plan.specs.Spans.{chunk_told, chunk_count_of, chunk_spans, side_spans, Spread, spread}
@@ -81,9 +82,9 @@ room m kept elims len b = room_of (column_count m) m.nrows (entry_count m) (bloc
 -- ---- what is told
 
 -- what a call answers: 0 with the kept and the eliminated span count, or a refusal
-abbrev pub told_plan : Planned → Told
-told_plan (Done kept elims) = tell 0 (kept ∷ elims ∷ [])
-told_plan (Refused r) = refused r
+abbrev pub told_plan : Result SpanCounts Refusal → Told
+told_plan (Ok spans) = tell 0 (spans.kept ∷ spans.eliminated ∷ [])
+told_plan (Err r) = refused r
 
 -- 1 to 6, after which no byte changes
 abbrev pub plan_early : Columns → List ℕ → List ℕ → ℕ → Buffers → Told

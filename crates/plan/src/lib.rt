@@ -2,6 +2,7 @@
 // entries cut into spans by chunks of rows.
 #![tactic(auto)]
 
+pub mod lent;
 mod lists;
 mod owners;
 mod row_lists;

@@ -3,9 +3,10 @@
 ghost use Rattle.std.specs.Prelude.{◌≡◌, ◌/◌, length};
 ghost use Rattle.columns.specs.Refusals.{told};
 ghost use Rattle.columns.specs.Lengths.{no_room_of};
-ghost use Rattle.columns.specs.Columns.{columns_of};
+ghost use Rattle.columns.specs.Columns.{column_count, entry_count};
+ghost use Rattle.columns.specs.Lent.{seen};
 ghost use Rattle.plan.specs.Spans.{chunk_count_of};
-ghost use Rattle.plan.specs.Plan.{room_list, told_plan, buffers, planned};
+ghost use Rattle.plan.specs.Plan.{buffers, room_list, told_plan, planned};
 ghost use Rattle.plan.specs.RoomCheck.{RoomFits};
 
 use crate::lists::{list_blocks, list_columns};
@@ -14,26 +15,21 @@ use crate::row_lists::row_lists;
 use crate::spans::{check_chunk, chunk_count, spans};
 use crate::visible::visible_lists;
 use blocks::check::{check_parts, mark_map, walk_blocks};
-use columns::check::column_count;
-use columns::refusal::{Answer, Refusal, no_room, or_else};
+use blocks::sides::Sides;
+use columns::lent::Columns;
+use columns::refusal::{Refusal, no_room};
 
-// What planning answers: how many spans each side has, or why there is no plan.
+// How many spans each side has.
 #[derive(Clone, Copy)]
-pub enum Planned {
-    Done {
-        kept_spans: usize,
-        eliminated_spans: usize,
-    },
-    Refused(Refusal),
+pub struct SpanCounts {
+    pub kept: usize,
+    pub eliminated: usize,
 }
 
-// Refusal 6: each buffer's length and need, in the order of the room list. It takes lengths alone, so that `plan` holds no list of them.
+// Refusal 6: each buffer's length and need, in the order of the room list. The lengths alone are passed, side by side as the slices are.
 fn check_room(
-    n: usize,
-    nrows: usize,
-    entries: usize,
-    kept: usize,
-    elims: usize,
+    columns: Columns,
+    sides: Sides,
     chunk_len: usize,
     map: usize,
     kept_cols: usize,
@@ -52,16 +48,21 @@ fn check_room(
     elims_lo: usize,
     elims_hi: usize,
     elims_local: usize,
-) -> Answer
-    requires { RoomFits nrows chunk_len (kept / 2) (elims / 2) }
-    ensures { told result
+) -> Result<(), Refusal>
+    requires { RoomFits columns.nrows chunk_len (length sides.kept.now / 2) (length sides.elims.now / 2) }
+    ensures { let m = seen columns.entry in
+        told result
         ≡ no_room_of
-        (room_list n nrows entries (kept / 2) (elims / 2) (chunk_count_of nrows chunk_len) map kept_cols elims_cols elims_blocks owners row_list
-        row_starts visible visible_starts kept_starts kept_lo kept_hi kept_local
-        elims_starts elims_lo elims_hi elims_local) }
+        (room_list (column_count m) m.nrows (entry_count m) (length sides.entry.kept.now / 2) (length sides.entry.elims.now / 2)
+        (chunk_count_of m.nrows chunk_len)
+        map kept_cols elims_cols elims_blocks owners row_list row_starts visible visible_starts
+        kept_starts kept_lo kept_hi kept_local elims_starts elims_lo elims_hi elims_local) }
 {
+    let n = columns.count();
+    let nrows = columns.nrows;
+    let entries = columns.rows.len();
     let starts = chunk_count(nrows, chunk_len) + 1;
-    let room = [
+    no_room(&[
         map,
         n,
         kept_cols,
@@ -75,11 +76,11 @@ fn check_room(
         row_list,
         nrows,
         row_starts,
-        elims / 2 + 1,
+        sides.elims.len() / 2 + 1,
         visible,
         entries,
         visible_starts,
-        kept / 2 + 1,
+        sides.kept.len() / 2 + 1,
         kept_starts,
         starts,
         kept_lo,
@@ -96,18 +97,13 @@ fn check_room(
         entries,
         elims_local,
         entries,
-    ];
-    no_room(&room)
+    ])
 }
 
 // Plans the structure: owners of the rows, row lists, visible lists, and the spans of both sides in chunks of `chunk_len` rows.
 pub fn plan(
-    nrows: usize,
-    ptrs: &[u32],
-    rows: &[u32],
-    values: &[f64],
-    kept: &[u32],
-    elims: &[u32],
+    columns: Columns,
+    sides: Sides,
     chunk_len: usize,
     map: &mut [u32],
     kept_cols: &mut [u32],
@@ -126,9 +122,8 @@ pub fn plan(
     elims_lo: &mut [u32],
     elims_hi: &mut [u32],
     elims_local: &mut [u32],
-) -> Planned
-    ensures { let m = columns_of nrows ptrs.now rows.now values.now in
-        let lent = buffers map.old kept_cols.old elims_cols.old elims_blocks.old
+) -> Result<SpanCounts, Refusal>
+    ensures { let lent = buffers map.old kept_cols.old elims_cols.old elims_blocks.old
         owners.old row_list.old row_starts.old visible.old visible_starts.old
         kept_starts.old kept_lo.old kept_hi.old kept_local.old
         elims_starts.old elims_lo.old elims_hi.old elims_local.old in
@@ -136,29 +131,16 @@ pub fn plan(
         row_list.new row_starts.new visible.new visible_starts.new kept_starts.new
         kept_lo.new kept_hi.new kept_local.new elims_starts.new elims_lo.new
         elims_hi.new elims_local.new in
-        record { told = told_plan result; left = left } ≡ planned m kept.now elims.now chunk_len lent }
+        record { told = told_plan result; left = left }
+        ≡ planned (seen columns.entry) sides.entry.kept.now sides.entry.elims.now chunk_len lent }
 {
     // 1 to 5
-    let parts = check_parts(
-        nrows,
-        ptrs,
-        rows,
-        values,
-        kept,
-        elims,
-        check_chunk(chunk_len),
-    );
-    if let Answer::Refused(r) = parts {
-        return Planned::Refused(r);
-    }
+    check_parts(columns, sides, check_chunk(chunk_len))?;
     // 6
-    let n = column_count(ptrs);
-    let room = check_room(
-        n,
-        nrows,
-        rows.len(),
-        kept.len(),
-        elims.len(),
+    let n = columns.count();
+    check_room(
+        columns,
+        sides,
         chunk_len,
         map.len(),
         kept_cols.len(),
@@ -177,29 +159,28 @@ pub fn plan(
         elims_lo.len(),
         elims_hi.len(),
         elims_local.len(),
-    );
-    if let Answer::Refused(r) = room {
-        return Planned::Refused(r);
-    }
+    )?;
     // 7 to 9, and the column map
-    if let Answer::Refused(r) = walk_blocks(kept, elims, n, map) {
-        return Planned::Refused(r);
-    }
+    walk_blocks(sides, n, map)?;
     // 10, and the owners
-    if let Answer::Refused(r) = row_owners(nrows, ptrs, rows, elims, owners) {
+    if let Err(refusal) = row_owners(columns, sides.elims, owners) {
         mark_map(map, n);
-        return Planned::Refused(r);
+        return Err(refusal);
     }
     // nothing refuses from here on
-    let kept_dof = list_columns(kept, kept_cols);
-    let elims_dof = list_columns(elims, elims_cols);
-    list_blocks(elims, elims_blocks);
-    row_lists(nrows, owners, elims.len() / 2, row_list, row_starts);
-    visible_lists(ptrs, rows, kept, owners, visible, visible_starts);
+    let kept_dof = list_columns(sides.kept, kept_cols);
+    let elims_dof = list_columns(sides.elims, elims_cols);
+    list_blocks(sides.elims, elims_blocks);
+    row_lists(
+        columns.nrows,
+        owners,
+        sides.elims.len() / 2,
+        row_list,
+        row_starts,
+    );
+    visible_lists(columns, sides.kept, owners, visible, visible_starts);
     let kept_spans = spans(
-        nrows,
-        ptrs,
-        rows,
+        columns,
         kept_cols,
         kept_dof,
         chunk_len,
@@ -209,9 +190,7 @@ pub fn plan(
         kept_local,
     );
     let eliminated_spans = spans(
-        nrows,
-        ptrs,
-        rows,
+        columns,
         elims_cols,
         elims_dof,
         chunk_len,
@@ -220,8 +199,8 @@ pub fn plan(
         elims_hi,
         elims_local,
     );
-    Planned::Done {
-        kept_spans: kept_spans,
-        eliminated_spans: eliminated_spans,
-    }
+    Ok(SpanCounts {
+        kept: kept_spans,
+        eliminated: eliminated_spans,
+    })
 }

@@ -7,7 +7,7 @@ use Prim.Native.Nat.{ℕ, ◌≤◌, ◌<◌}
 use contract.Lifetimes.{Lfts}
 use lib.ListN.{length}
 use lib.Ieee.{Float}
-use Rattle.columns.specs.declared.refusal.Answer.TheVariants.{Done}
+use Rattle.std.specs.Prelude.{Ok}
 use Rattle.columns.specs.Refusals.{done}
 use Rattle.columns.specs.Columns.{column_count}
 use Rattle.products.specs.Orders.{Swept, start_rows, sweep_of}
@@ -16,7 +16,7 @@ use Rattle.product_laws.proofs.CallParts.{sweep_side, sweep_columns, sweep_kept,
 use Rattle.product_laws.proofs.StepLaws.{sweep_after, last_rows_lem, last_progress}
 use Rattle.products.proofs.order.sweep.Reads as all
 
-module _ (κs : Lfts 14) (a : _) (t : _) (post : all.Post κs a Done t) (maps : ℕ → List ℕ) (roomy : (i : ℕ) → i < length (sweep_order κs a) → column_count (sweep_columns κs a) ≤ length (maps i)) where
+module _ (κs : Lfts 8) (a : _) (t : _) (post : all.Post κs a (Ok tt) t) (maps : ℕ → List ℕ) (roomy : (i : ℕ) → i < length (sweep_order κs a) → column_count (sweep_columns κs a) ≤ length (maps i)) where
   -- the rows that the sweep starts from
   abbrev from : List Float
   from = start_rows (sweep_side κs a) (sweep_rows κs a)

@@ -15,10 +15,9 @@ use Rattle.columns.specs.Refusals.{Passes}
 use Rattle.columns.specs.Lengths.{wrong_length}
 use Rattle.columns.specs.Columns.{Columns, column_count}
 use Rattle.columns.proofs.RefusalLaws.{pass_done, both_pass}
-use Rattle.blocks.specs.declared.partition.Number.TheVariants.{Is, Nothing}
+use Rattle.std.specs.Prelude.{Some, None}
 use Rattle.blocks.specs.Sides.{cols, offset_of, side_dof, HasAt, side_of}
 use Rattle.blocks.specs.Claims.{claims, place_of, blocks_told, Parted, BlocksKeep}
-use Rattle.blocks.specs.declared.partition.Within.TheVariants as within
 use Rattle.blocks.specs.Lookups.{local_in, within_in}
 use Rattle.blocks.proofs.SideLaws.{local-low, cols_from}
 use Rattle.blocks.proofs.PartLaws.{place_in, parted-place, passes_parted}
@@ -68,26 +67,26 @@ module _ (n : ℕ) (kept elims : List ℕ) (p : Parted n kept elims) (xk xe : Li
     place_is : get_or (map_on n kept elims []) c 0 ≡ place_of (claims n kept elims) c
     place_is = map-place n kept elims [] p c h
 
-    pub update_kept_lookup : local_in kept c ≡ Is l → update_at n kept elims xk xe c ≡ get_or xk l nan
+    pub update_kept_lookup : local_in kept c ≡ Some l → update_at n kept elims xk xe c ≡ get_or xk l nan
     unfolding update_at
     update_kept_lookup e = go (ltb (place_of (claims n kept elims) c) (side_dof kept)) (sym e ∙ kept_map n kept elims [] p c h ∙ rw place_is)
       where
-        go : (b : Bool) → Is l ≡ cond b (Is (place_of (claims n kept elims) c)) Nothing
+        go : (b : Bool) → Some l ≡ cond b (Some (place_of (claims n kept elims) c)) None
             → cond b (get_or xk (place_of (claims n kept elims) c) nan) (get_or xe (place_of (claims n kept elims) c - side_dof kept) nan) ≡ get_or xk l nan
         go true q = let s : place_of (claims n kept elims) c ≡ l = cc q in rw s
         go false q = let z : ◌≡◌ {A = ℕ} 0 1 = cc q in absurd (omega arith)
 
-    pub update_elims_lookup : local_in elims c ≡ Is l → update_at n kept elims xk xe c ≡ get_or xe l nan
+    pub update_elims_lookup : local_in elims c ≡ Some l → update_at n kept elims xk xe c ≡ get_or xe l nan
     unfolding update_at
     update_elims_lookup e = go (ltb (place_of (claims n kept elims) c) (side_dof kept)) (sym e ∙ elims-map n kept elims [] p c h ∙ rw place_is)
       where
-        go : (b : Bool) → Is l ≡ cond b Nothing (Is (place_of (claims n kept elims) c - side_dof kept))
+        go : (b : Bool) → Some l ≡ cond b None (Some (place_of (claims n kept elims) c - side_dof kept))
             → cond b (get_or xk (place_of (claims n kept elims) c) nan) (get_or xe (place_of (claims n kept elims) c - side_dof kept) nan) ≡ get_or xe l nan
         go true q = let z : ◌≡◌ {A = ℕ} 0 1 = cc q in absurd (omega arith)
         go false q = let s : place_of (claims n kept elims) c - side_dof kept ≡ l = cc q in rw s
 
   -- and where it finds the eliminated block and the offset there
-  pub update_within : (c b i : ℕ) → c < n → within_in elims c ≡ within.At b i → update_at n kept elims xk xe c ≡ get_or xe (offset_of elims b + i) nan
+  pub update_within : (c b i : ℕ) → c < n → within_in elims c ≡ Some (b, i) → update_at n kept elims xk xe c ≡ get_or xe (offset_of elims b + i) nan
   unfolding local_of
   update_within c b i h e = update_elims_lookup c (offset_of elims b + i) h (within-local elims c ∙ ap (local_of elims) e)
 

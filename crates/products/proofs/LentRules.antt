@@ -9,8 +9,8 @@ use Rattle.ground.proofs.GatherLaws.{length-list_of}
 use Rattle.ground.proofs.Rules.{loops}
 use Rattle.ground.proofs.ListLaws.{list_of_same}
 use Rattle.columns.specs.declared.refusal.Refusal.{Refusal}
-use Rattle.columns.specs.declared.refusal.Answer.{Answer}
-use Rattle.columns.specs.declared.refusal.Answer.TheVariants.{Done, Refused}
+use Rattle.columns.specs.Refusals.{Answer}
+use Rattle.std.specs.Prelude.{Ok, Err}
 use Rattle.columns.specs.declared.unchecked.Sign.TheVariants.{Plus}
 use Rattle.columns.specs.Refusals.{number, Told, done, refused, told, Passes, on_pass}
 use Rattle.columns.specs.Lengths.{wrong_length}
@@ -32,13 +32,13 @@ use Rattle.products.specs.LentCalls.{check_lengths, lent, Pair, coupled, Couplin
 -- ---- the lengths alone: a is what `wrong_length` answered
 
 module _ (pairs : List ℕ) (n : ℕ) (map : List ℕ) (a : Answer) (e : told a ≡ wrong_length pairs) where
-  pub lengths_refused : (r : Refusal) (end : List ℕ) → a ≡ Refused r → end ≡ marked n map → record { told = refused r; map = end } ≡ check_lengths pairs n map
+  pub lengths_refused : (r : Refusal) (end : List ℕ) → a ≡ Err r → end ≡ marked n map → record { told = refused r; map = end } ≡ check_lengths pairs n map
   unfolding check_lengths
   lengths_refused r end p q =
       let t : wrong_length pairs ≡ refused r = sym e ∙ ap told p in
       rw (t, pass_refused r map (marked n map), q)
 
-  pub lengths_done : a ≡ Done → record { told = done; map = map } ≡ check_lengths pairs n map
+  pub lengths_done : a ≡ Ok tt → record { told = done; map = map } ≡ check_lengths pairs n map
   unfolding check_lengths on_pass
   lengths_done p = let t : wrong_length pairs ≡ done = sym e ∙ ap told p in rw t
 
@@ -53,14 +53,14 @@ pub record LentPassed (m : Columns) (kept elims map pairs end : List ℕ) : Type
 
 -- a is what `check_blocks` answered, and left the map that it left
 module _ (m : Columns) (kept elims map : List ℕ) (a : Answer) (left : List ℕ) (e : record { told = told a; map = left } ≡ check_blocks m kept elims map) where
-  pub first-refused : (pairs : List ℕ) (r : Refusal) → a ≡ Refused r → record { told = refused r; map = left } ≡ lent m kept elims map pairs
+  pub first-refused : (pairs : List ℕ) (r : Refusal) → a ≡ Err r → record { told = refused r; map = left } ≡ lent m kept elims map pairs
   unfolding lent_told
   first-refused pairs r p =
       let t : blocks_told m kept elims map ≡ refused r = sym (blocks-told m kept elims map (told a) left e) ∙ ap told p in
       let q : left ≡ map_left (refused r) m kept elims map = rw t at (blocks-map m kept elims map (told a) left e) in
       rw (t, pass_refused r (wrong_length pairs) (refused r), q)
 
-  module _ (p : a ≡ Done) where
+  module _ (p : a ≡ Ok tt) where
     passes : Passes (told a)
     passes = ap (λ (b : Answer). (told b).number) p
 
@@ -84,7 +84,7 @@ module _ (m : Columns) (kept elims map : List ℕ) (a : Answer) (left : List ℕ
       unfolding check_lengths
       end_is = rw (lengths_told, ← q, ← c) (ap (λ (o : Mapped). o.map) f)
 
-      pub then_refused : (r : Refusal) → w ≡ Refused r → record { told = refused r; map = end } ≡ lent m kept elims map pairs
+      pub then_refused : (r : Refusal) → w ≡ Err r → record { told = refused r; map = end } ≡ lent m kept elims map pairs
       then_refused r z =
           let t : lent_told m kept elims map pairs ≡ refused r = sym all_told ∙ ap told z in
           let u : end ≡ marked (column_count m) left = (rw z at end_is) ∙ pass_refused r left (marked (column_count m) left) in
@@ -94,7 +94,7 @@ module _ (m : Columns) (kept elims map : List ℕ) (a : Answer) (left : List ℕ
           ∙ left-marked m kept elims map (refused r) (blocks_told m kept elims map) early (eqb-false (number r) 0 (number-some r)) in
           rw (t, u, v)
 
-      module _ (z : w ≡ Done) where
+      module _ (z : w ≡ Ok tt) where
         end_left : end ≡ left
         end_left = (rw z at end_is) ∙ pass_done done left (marked (column_count m) left) refl
 

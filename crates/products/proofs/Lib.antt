@@ -8,3 +8,4 @@ pub mod SweepRules
 pub mod StepRules
 pub mod OperatorRules
 pub mod OperatorCalls
+pub mod SearchRules

@@ -7,8 +7,8 @@ use lib.ListN.{length-replicate}
 use lib.Ieee.{Float}
 use Rattle.columns.specs.declared.unchecked.Sign.TheVariants.{Plus, Minus}
 use Rattle.columns.specs.declared.refusal.Refusal.{Refusal}
-use Rattle.columns.specs.declared.refusal.Answer.{Answer}
-use Rattle.columns.specs.declared.refusal.Answer.TheVariants.{Done, Refused}
+use Rattle.columns.specs.Refusals.{Answer}
+use Rattle.std.specs.Prelude.{Ok, Err}
 use Rattle.columns.specs.Refusals.{Told, done, refused, told, Passes, or_else}
 use Rattle.columns.specs.Lengths.{wrong_length}
 use Rattle.columns.specs.Columns.{Columns, columns_of, column_count}
@@ -20,18 +20,17 @@ use Rattle.blocks.specs.Claims.{late_blocks, marked, Mapped, BlocksKeep}
 use Rattle.blocks.specs.BlockValues.{value_count, Limited}
 use Rattle.blocks.proofs.ValueCalls.{limited_of}
 use Rattle.plan.specs.Spans.{chunk_count_of, Spread}
-use Rattle.plan.specs.SpanWalk.{Chunked}
 use Rattle.products.specs.SideSums.{side_gather, inverse_times}
 use Rattle.products.specs.SideFits.{SideFits, DofsFit, InversesFit}
 use Rattle.products.specs.Orders.{plan_bad, bad_plan, span_terms, plan_terms, early_chunked}
 use Rattle.products.specs.OrderWalk.{entries_only, spans_only, SpansFit}
-use Rattle.products.specs.PlanCheck.{Risen, rows_only}
+use Rattle.products.specs.PlanCheck.{rows_only}
 use Rattle.products.specs.SweepCheck.{chunked_left, check_chunked}
 use Rattle.products.specs.Operator.{damp_length, Operands, Work, sizes_of, operator_lengths, operator_told, kept_rows, eliminated_sums, reduced_rows, kept_sums, operated, schur_operator}
 use Rattle.products.specs.OperatorCalls.{operator_lent, damped_on, DampFits}
 use Rattle.products.proofs.LentRules.{dofs-fit, side-fits}
 use Rattle.products.proofs.OperatorRules.{damped-sums}
-use Rattle.products.proofs.SweepRules.{Chunks, risen_of, chunked_passes, rest_is, late_marked, late_kept, plan-told-is, good-spans}
+use Rattle.products.proofs.SweepRules.{Chunks, chunked_passes, rest_is, late_marked, late_kept, plan-told-is, good-spans}
 
 few_damp : (n k : ℕ) → damp_length n k ≡ k → n ≤ k
 unfolding damp_length
@@ -51,11 +50,7 @@ unfolding span_terms
 plan_any m s sign y v = refl
 
 -- what a pass of 1 to 9 gives
-module _ (m : Columns) (kept elims : List ℕ) (len : ℕ) (c : Chunks m kept elims len) where
-  -- what the check of the lent plans asks
-  pub operator-asked : Risen m.ptrs m.rows × Chunked m.nrows len
-  operator-asked = (risen_of m c.keeps, c.chunked)
-
+module _ {m : Columns} {kept elims : List ℕ} {len : ℕ} (c : Chunks m kept elims len) where
   -- columns and blocks keep the rules; the laws of the blocks ask for a map too, and any with room will do
   keep : BlocksKeep m kept elims (replicate (column_count m) 0)
   keep = record { keeps = c.keeps; parted = c.parted; room = (let e = length-replicate {A = ℕ} (column_count m) 0 in omega arith) }
@@ -73,7 +68,7 @@ pub record Passed (m : Columns) (kept elims : List ℕ) (len : ℕ) (o : Operand
   pub kept-plan : Passes (bad_plan false m kept len o.kept)
   pub elims-plan : Passes (bad_plan true m elims len o.elims)
 
-module _ (m : Columns) (kept elims : List ℕ) (len : ℕ) (o : Operands) (w : Work) (p : Passed m kept elims len o w) where
+module _ {m : Columns} {kept elims : List ℕ} {len : ℕ} {o : Operands} {w : Work} (p : Passed m kept elims len o w) where
   right : (k : ℕ) → k < 15 → get_or (operator_lengths m kept elims len o w) (k + k) 0 ≡ get_or (operator_lengths m kept elims len o w) (k + k + 1) 0
   unfolding operator_lengths
   right k h = lengths_right (operator_lengths m kept elims len o w) p.lengths k h
@@ -94,11 +89,11 @@ module _ (m : Columns) (kept elims : List ℕ) (len : ℕ) (o : Operands) (w : W
 
   pub elims-gather : (ny nt : ℕ) → ny ≡ length w.rows → nt ≡ length w.t → SideFits (columns_of ny m.ptrs m.rows m.values) elims nt
   unfolding operator_lengths
-  elims-gather ny nt h g = side-fits m kept elims (replicate (column_count m) 0) (keep m kept elims len p.chunks) true nt ny (h ∙ right 11 (omega arith)) (g ∙ right 12 (omega arith))
+  elims-gather ny nt h g = side-fits m kept elims (replicate (column_count m) 0) (keep p.chunks) true nt ny (h ∙ right 11 (omega arith)) (g ∙ right 12 (omega arith))
 
   pub kept-gather : (ny n : ℕ) → ny ≡ length w.rows → n ≡ length w.out → SideFits (columns_of ny m.ptrs m.rows m.values) kept n
   unfolding operator_lengths
-  kept-gather ny n h g = side-fits m kept elims (replicate (column_count m) 0) (keep m kept elims len p.chunks) false n ny (h ∙ right 11 (omega arith)) (g ∙ right 14 (omega arith))
+  kept-gather ny n h g = side-fits m kept elims (replicate (column_count m) 0) (keep p.chunks) false n ny (h ∙ right 11 (omega arith)) (g ∙ right 14 (omega arith))
 
   pub inverses-fit : (nt nu : ℕ) → nt ≡ length w.t → nu ≡ length w.u → InversesFit elims (length o.inverses) nt nu
   unfolding operator_lengths
@@ -114,7 +109,7 @@ module _ (m : Columns) (kept elims : List ℕ) (len : ℕ) (o : Operands) (w : W
 
 module _ (m : Columns) (kept elims : List ℕ) (len : ℕ) (map : List ℕ) (o : Operands) (w : Work) (t : Answer) (map' : List ℕ) (call : record { told = told t; map = map' } ≡ check_chunked m kept elims len map) where
   -- 1 to 9
-  pub operator-refused : (r : Refusal) → t ≡ Refused r → record { told = refused r; map = map'; work = w } ≡ schur_operator m kept elims len map o w
+  pub operator-refused : (r : Refusal) → t ≡ Err r → record { told = refused r; map = map'; work = w } ≡ schur_operator m kept elims len map o w
   unfolding schur_operator check_chunked
   operator-refused r q =
       let a : or_else (early_chunked m kept elims len map) (late_blocks m kept elims) ≡ refused r = sym (ap (λ (z : Mapped). z.told) call) ∙ ap told q in
@@ -122,7 +117,7 @@ module _ (m : Columns) (kept elims : List ℕ) (len : ℕ) (map : List ℕ) (o :
       let z : map' ≡ chunked_left (refused r) m kept elims len map = rw a at (ap (λ (z : Mapped). z.map) call) in
       rw (b, z, pass_refused r (operated m kept elims o) w)
 
-  module _ (d : t ≡ Done) where
+  module _ (d : t ≡ Ok tt) where
     -- the numbers that the code counted, and what the checks of 11 and 13 answered
     module _ (kd ed count : ℕ) (l : Answer) (p : kd ≡ side_dof kept) (q : ed ≡ side_dof elims) (c : count ≡ value_count elims)
         (lent : told l ≡ operator_lent m.nrows (rows_only m.rows) len kd ed count (sizes_of o w) o.kept o.elims) where
@@ -133,12 +128,12 @@ module _ (m : Columns) (kept elims : List ℕ) (len : ℕ) (map : List ℕ) (o :
           ∙ sym (lent ∙ rw (p, q, c, plan-told-is false m kept len o.kept, plan-told-is true m elims len o.elims))
 
       -- 11 and 13
-      pub operator_later : (r : Refusal) (k : ℕ) (map₂ : List ℕ) → l ≡ Refused r → k ≡ column_count m → map₂ ≡ marked k map' → record { told = refused r; map = map₂; work = w } ≡ schur_operator m kept elims len map o w
+      pub operator_later : (r : Refusal) (k : ℕ) (map₂ : List ℕ) → l ≡ Err r → k ≡ column_count m → map₂ ≡ marked k map' → record { told = refused r; map = map₂; work = w } ≡ schur_operator m kept elims len map o w
       unfolding schur_operator
       operator_later r k map₂ e n z = rw (told_is, e, late_marked m kept elims len map t map' call d r k map₂ n z, pass_refused r (operated m kept elims o) w)
 
       -- all checks have passed
-      module _ (e : l ≡ Done) where
+      module _ (e : l ≡ Ok tt) where
         pub operator_passes : Passed m kept elims len o w
         operator_passes =
             let a = both_pass (early_chunked m kept elims len map) _ (ap (λ (z : Told). z.number) (told_is ∙ ap told e)) in
@@ -156,9 +151,9 @@ module _ (m : Columns) (kept elims : List ℕ) (len : ℕ) (map : List ℕ) (o :
             → record { told = done; map = map'; work = record { rows = y₃; t = t'; u = u'; out = out₂ } } ≡ schur_operator m kept elims len map o w
         unfolding schur_operator operated operator_lengths
         operator-done y₁ y₂ y₃ t' u' out₁ out₂ ny mz a b f g h i j =
-            let rows₁ : y₂ ≡ kept_rows m o.kept o.v = b ∙ ap (λ (z : List Float). swept_on Plus z (gather (span_terms (entries_only m.rows m.values) (spans_only o.kept.lo o.kept.hi o.kept.local) o.v) 0 (length o.kept.lo))) (a ∙ ap (λ (n : ℕ). replicate n zero₊) (right m kept elims len o w operator_passes 11 (omega arith))) ∙ plan_any m o.kept Plus (replicate m.nrows zero₊) o.v in
+            let rows₁ : y₂ ≡ kept_rows m o.kept o.v = b ∙ ap (λ (z : List Float). swept_on Plus z (gather (span_terms (entries_only m.rows m.values) (spans_only o.kept.lo o.kept.hi o.kept.local) o.v) 0 (length o.kept.lo))) (a ∙ ap (λ (n : ℕ). replicate n zero₊) (right operator_passes 11 (omega arith))) ∙ plan_any m o.kept Plus (replicate m.nrows zero₊) o.v in
             let sums : t' ≡ eliminated_sums m elims (kept_rows m o.kept o.v) = f ∙ gather_any m elims ny y₂ ∙ ap (λ (z : List Float). eliminated_sums m elims z) rows₁ in
             let times : u' ≡ inverse_times elims o.inverses (eliminated_sums m elims (kept_rows m o.kept o.v)) = g ∙ ap (λ (z : List Float). inverse_times elims o.inverses z) sums in
             let rows₂ : y₃ ≡ reduced_rows m o.elims (inverse_times elims o.inverses (eliminated_sums m elims (kept_rows m o.kept o.v))) (kept_rows m o.kept o.v) = h ∙ plan_any m o.elims Minus y₂ u' ∙ rw (rows₁, times) in
-            let last : out₂ ≡ kept_sums m kept o.d o.v y₃ = damped-sums m kept o.d o.v y₃ out₁ out₂ (damp_few m kept elims len o w operator_passes) (i ∙ gather_any m kept mz y₃) j in
+            let last : out₂ ≡ kept_sums m kept o.d o.v y₃ = damped-sums m kept o.d o.v y₃ out₁ out₂ (damp_few operator_passes) (i ∙ gather_any m kept mz y₃) j in
             rw (told_is, e, last, rows₂, times, sums, pass_done done (operated m kept elims o) w refl) (ap (λ (z : List ℕ). record { told = done; map = z; work = operated m kept elims o }) (late_kept m kept elims len map t map' call d))

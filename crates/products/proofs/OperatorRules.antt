@@ -10,8 +10,8 @@ use Rattle.ground.proofs.NumberLaws.{not_more}
 use Rattle.ground.proofs.ListLaws.{list_of_same, set-list_of}
 use Rattle.ground.proofs.FoldLaws.{folded_append, folded-one}
 use Rattle.columns.specs.declared.refusal.Refusal.{Refusal}
-use Rattle.columns.specs.declared.refusal.Answer.{Answer}
-use Rattle.columns.specs.declared.refusal.Answer.TheVariants.{Done, Refused}
+use Rattle.columns.specs.Refusals.{Answer}
+use Rattle.std.specs.Prelude.{Ok, Err}
 use Rattle.columns.specs.Refusals.{Told, refused, told, or_else}
 use Rattle.columns.specs.Lengths.{wrong_length}
 use Rattle.columns.specs.Columns.{Columns}
@@ -102,19 +102,19 @@ module _ (nrows : ℕ) (m : Columns) (len kd ed count : ℕ) (z : Sizes) (ks es 
   wrong_is : told w ≡ wrong_length pairs
   wrong_is = call ∙ rw (c, q)
 
-  pub operands-refused : (r : Refusal) → w ≡ Refused r → refused r ≡ operator_lent nrows m len kd ed count z ks es
+  pub operands-refused : (r : Refusal) → w ≡ Err r → refused r ≡ operator_lent nrows m len kd ed count z ks es
   unfolding operator_lent
   operands-refused r e = rw (← wrong_is, e) (sym (or_refused r _))
 
-  module _ (e : w ≡ Done) where
+  module _ (e : w ≡ Ok tt) where
     right : (k : ℕ) → k < 15 → get_or pairs (k + k) 0 ≡ get_or pairs (k + k + 1) 0
     right k h = lengths_right pairs (ap (λ (t : Told). t.number) (sym wrong_is ∙ ap told e)) k h
 
-    pub kept_there : Chunked nrows len → PlanThere len chunks (length ks.starts) (length ks.lo) (length ks.hi) (length ks.local)
-    kept_there h = rw c (record { starts = right 3 (omega arith); hi = right 5 (omega arith); local = right 6 (omega arith); small = small_end nrows len h })
-
-    pub elims-there : Chunked nrows len → PlanThere len chunks (length es.starts) (length es.lo) (length es.hi) (length es.local)
-    elims-there h = rw c (record { starts = right 7 (omega arith); hi = right 9 (omega arith); local = right 10 (omega arith); small = small_end nrows len h })
+    pub plans_there : Chunked nrows len → PlanThere len chunks (length ks.starts) (length ks.lo) (length ks.hi) (length ks.local) × PlanThere len chunks (length es.starts) (length es.lo) (length es.hi) (length es.local)
+    plans_there h = rw c (
+      record { starts = right 3 (omega arith); hi = right 5 (omega arith); local = right 6 (omega arith); small = small_end nrows len h },
+      record { starts = right 7 (omega arith); hi = right 9 (omega arith); local = right 10 (omega arith); small = small_end nrows len h },
+    )
 
     lent_is : operator_lent nrows m len kd ed count z ks es ≡ or_else (spans_told false m kd len chunks ks) (spans_told true m ed len chunks es)
     unfolding operator_lent
@@ -122,10 +122,10 @@ module _ (nrows : ℕ) (m : Columns) (len kd ed count : ℕ) (z : Sizes) (ks es 
 
     -- k is what the kept plan's check told
     module _ (k : Answer) (kept : told k ≡ spans_told false m kd len chunks ks) where
-      pub kept-refused : (r : Refusal) → k ≡ Refused r → refused r ≡ operator_lent nrows m len kd ed count z ks es
+      pub kept-refused : (r : Refusal) → k ≡ Err r → refused r ≡ operator_lent nrows m len kd ed count z ks es
       kept-refused r p = sym (lent_is ∙ rw (← kept, p) (or_refused r _))
 
-      pub both_plans : (t : Answer) → k ≡ Done → told t ≡ spans_told true m ed len chunks es → told t ≡ operator_lent nrows m len kd ed count z ks es
+      pub both_plans : (t : Answer) → k ≡ Ok tt → told t ≡ spans_told true m ed len chunks es → told t ≡ operator_lent nrows m len kd ed count z ks es
       both_plans t p r = r ∙ sym (lent_is ∙ rw (← kept, p) (or_done _))
 
 pub ruleset operating = (loops, damp_none, damp_some, damp_step, damp_vector, damp_out)

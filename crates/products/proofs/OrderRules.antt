@@ -16,10 +16,9 @@ use Rattle.columns.specs.declared.unchecked.Sign.{Sign}
 use Rattle.columns.specs.Refusals.{Told, tell, done}
 use Rattle.columns.specs.Sums.{landed, swept_on}
 use Rattle.columns.specs.JacobianOps.{landings}
-use Rattle.columns.specs.Unchecked.{EntriesFit}
 use Rattle.plan.specs.Spans.{Spread}
 use Rattle.products.specs.Orders.{span_count, span_terms, served, has_next, place_bad, chunk_left, bad_order}
-use Rattle.products.specs.OrderWalk.{entries_only, spans_only, starts_only, left_at, Counted, counts, counted_to, tested_order, Work, work, stepped, place_terms, ran_to, ran_order, SpanFits, SpansFit, StartsFit, LeftFits, CountFits, StepFits, RunFits}
+use Rattle.products.specs.OrderWalk.{entries_only, spans_only, starts_only, left_at, Counted, counts, counted_to, tested_order, Work, work, stepped, place_terms, ran_to, ran_order, SpanThere, SpanFits, SpansFit, StartsFit, LeftFits, CountFits, StepFits, RunFits}
 use Rattle.ground.proofs.FirstLaws.{some_goes, some_stops, some-ends}
 
 -- ---- spans left
@@ -164,41 +163,50 @@ order_tested n starts order p p₁ t e k q = rw (e, q, zeroed p, k)
 
 -- ---- the work
 
--- l, a and b are what the code read, y' what the sweep of the entries left
+-- l, a and b are what the code read of span k, y' what the sweep of its entries left
 module _ (sign : Sign) (rows : List ℕ) (values v : List Float) (lo hi local : List ℕ) (k l a b : ℕ) (y : List Float) (p : l ≡ get_or local k 0) (q : a ≡ get_or lo k 0) (r : b ≡ get_or hi k 0) where
   pub span_swept : (y' : List Float) → y' ≡ swept_on sign y (landings rows values (get_or v l nan) a b) → y' ≡ swept_on sign y (span_terms (entries_only rows values) (spans_only lo hi local) v k)
   unfolding span_terms
   span_swept y' e = e ∙ rw (p, q, r)
 
-  pub span_entries : SpanFits rows (length values) (length v) (length y) lo hi local k → EntriesFit rows (length values) (length y) a b
-  span_entries f = rw (q, r) f.entries
+pub span_there : {rows : List ℕ} {nvalues nv n : ℕ} {lo hi local : List ℕ} {k : ℕ} (l a b m : ℕ) → SpanFits rows nvalues nv n lo hi local k → m ≡ n → l ≡ get_or local k 0 → a ≡ get_or lo k 0 → b ≡ get_or hi k 0 → SpanThere rows nvalues nv m a b l
+span_there l a b m f e p q r = rw (e, p, q, r) (record { below = f.below; entries = f.entries })
 
 pub span_at_lem : {rows : List ℕ} {nvalues nv n m : ℕ} {lo hi local : List ℕ} {k : ℕ} → SpansFit rows nvalues nv n lo hi local → m ≡ n → k < length lo → SpanFits rows nvalues nv m lo hi local k
 span_at_lem {k = k} f e h = rw e (f.each k h)
 
--- a step's span: a and d are its chunk's start and progress as the code read them
-module _ (rows : List ℕ) (nvalues nv ny : ℕ) (s : Spread) (progress : List ℕ) (c : ℕ) (f : StepFits rows nvalues nv ny s progress c) where
-  pub step_there : c < length progress
-  step_there = (next-there (length progress) s c (get_or progress c 0) true (sym f.next) refl).0
+-- a chunk that has a span left
+module _ (starts progress : List ℕ) (c : ℕ) (f : StartsFit (length starts) (length progress)) (next : has_next (length progress) (starts_only starts) c (get_or progress c 0) ≡ true) where
+  pub left_there : c < length progress
+  left_there = (next-there (length progress) (starts_only starts) c (get_or progress c 0) true (sym next) refl).0
 
-  step_left : get_or s.starts c 0 + get_or progress c 0 < get_or s.starts (c + 1) 0
+  pub left_start : c < length starts
+  left_start = omega (arith, left_there, f.started)
+
+  pub left_before : get_or starts c 0 + get_or progress c 0 < get_or starts (c + 1) 0
   unfolding span_count
-  step_left = let h = (next-there (length progress) s c (get_or progress c 0) true (sym f.next) refl).1 in omega arith
+  left_before = let h = (next-there (length progress) (starts_only starts) c (get_or progress c 0) true (sym next) refl).1 in omega arith
 
-  pub step_start : c < length s.starts
-  step_start = omega (arith, step_there, f.plan.starts.started)
+  pub left_more : get_or starts (c + 1) 0 ≤ 4_294_967_295 → get_or progress c 0 + 1 ≤ 4_294_967_295
+  left_more h = omega (arith, left_before)
 
-  pub step_more : get_or s.starts (c + 1) 0 ≤ 4_294_967_295 → get_or progress c 0 + 1 ≤ 4_294_967_295
-  step_more h = omega (arith, step_left)
+-- a step's span, at place `at`
+module _ (rows : List ℕ) (nvalues nv ny : ℕ) (s : Spread) (progress : List ℕ) (c : ℕ) (f : StepFits rows nvalues nv ny s progress c) where
+  pub step_next : has_next (length progress) (starts_only s.starts) c (get_or progress c 0) ≡ true
+  unfolding has_next span_count
+  step_next = f.next
 
-  pub step_span : (a d : ℕ) → a ≡ get_or s.starts c 0 → d ≡ get_or progress c 0 → SpanFits rows nvalues nv ny s.lo s.hi s.local (a + d)
-  step_span a d p q = rw (p, q) (f.plan.spans.each _ (omega (arith, step_left, f.plan.inside c step_there)))
+  pub step_span : (at : ℕ) → at ≡ get_or s.starts c 0 + get_or progress c 0 → SpanFits rows nvalues nv ny s.lo s.hi s.local at
+  step_span at p =
+      let h = left_before s.starts progress c f.plan.starts step_next in
+      rw p (f.plan.spans.each _ (omega (arith, h, f.plan.inside c (left_there s.starts progress c f.plan.starts step_next))))
 
-pub step_done : (sign : Sign) (rows : List ℕ) (values v : List Float) (s : Spread) (c a d : ℕ) (y y' : List Float) (progress : List ℕ) → a ≡ get_or s.starts c 0 → d ≡ get_or progress c 0
-    → y' ≡ swept_on sign y (span_terms (entries_only rows values) (spans_only s.lo s.hi s.local) v (a + d))
-    → work y' (set progress c (get_or progress c 0 + 1)) ≡ stepped sign (entries_only rows values) s v c (work y progress)
+pub step_done : (sign : Sign) (rows : List ℕ) (values v : List Float) (s : Spread) (c at : ℕ) (y y' : List Float) (progress progress' : List ℕ) → at ≡ get_or s.starts c 0 + get_or progress c 0
+    → progress' ≡ set progress c (get_or progress c 0 + 1)
+    → y' ≡ swept_on sign y (span_terms (entries_only rows values) (spans_only s.lo s.hi s.local) v at)
+    → work y' progress' ≡ stepped sign (entries_only rows values) s v c (work y progress)
 unfolding stepped span_terms
-step_done sign rows values v s c a d y y' progress p q e = rw (e, p, q)
+step_done sign rows values v s c at y y' progress progress' p q e = rw (e, p, q)
 
 -- an order's run, at place i: c is the chunk that the code read
 module _ (rows : List ℕ) (nvalues nv ny k : ℕ) (s : Spread) (progress₀ progress order : List ℕ) (i c : ℕ) (f : RunFits rows nvalues nv ny s progress₀ order) (h : i < length order) (size : k ≡ ny)
@@ -271,4 +279,4 @@ pub ruleset ordering = (
   order_tested,
 )
 
-pub ruleset stepping = (rules, fold_turn, fold_done, span_swept, span_entries, span_at_lem, step_there, step_start, step_more, step_span, step_done, run_step, run-counts, run_turn, run-done, counts_zero)
+pub ruleset stepping = (rules, fold_turn, fold_done, span_swept, span_there, span_at_lem, left_there, left_start, step_next, step_span, step_done, run_step, run-counts, run_turn, run-done, counts_zero)

@@ -1,10 +1,11 @@
 -- What the functions of src/plan_check.rt show: a lemma for each way that they return, and that looking at each chunk's spans by its first row
 -- and its end is what the definitions say. Assumes nothing.
-use Rattle.std.proofs.Common.{◌≡◌, ℕ, zero, suc, ◌+◌, ◌-◌, ◌*◌, ◌%◌, ◌^◌, ◌<◌, ◌≤◌, Bool, true, false, cond, not, ◌&&◌, ◌||◌, eqb, ltb, leb, List, [], ◌∷◌, length, get_or, sym, refl, ap, ◌∙◌, le_trans, le_of_eq, le_refl, mul-le-mul, arith, rules, ltb-false, ltb-true, le-ltb, lt-ltb, eq-eqb, ne_eqb, eqb-true, le-leb, leb-false, leb-true}
+use Rattle.std.proofs.Common.{◌≡◌, ℕ, zero, suc, ◌+◌, ◌-◌, ◌*◌, ◌%◌, ◌^◌, ◌<◌, ◌≤◌, Bool, true, false, cond, not, ◌&&◌, ◌||◌, eqb, ltb, leb, List, [], ◌∷◌, length, get_or, take, drop, sym, refl, ap, ◌∙◌, le_trans, le_of_eq, le_refl, mul-le-mul, zero-add, add-zero, length-take, length-drop, arith, rules, ltb-false, ltb-true, le-ltb, lt-ltb, eq-eqb, ne_eqb, eqb-true, le-leb, leb-false, leb-true}
 use native.Mathlib.Decide.{dec_lt}
 use borrow.Author.Tests.{lt-leb, not-false}
+use Rattle.std.proofs.lemmas.List.{get_or-take, get_or-drop}
 use Rattle.ground.specs.First.{first, some, None}
-use Rattle.ground.proofs.FirstLaws.{by_call, first_turn, first_stop, first_none, first-low, first-before, first_bad, past_none, none_past, first_same, some_at, some_none, some_turn, some-done, some_goes, some_stops, some-ends}
+use Rattle.ground.proofs.FirstLaws.{by_call, first_turn, first_stop, first_none, first-low, first-before, first_bad, past_none, none_past, first_same, some_at, some_none, some_first, some_turn, some-done, some_goes, some_stops, some-ends}
 use Rattle.ground.proofs.TestLaws.{and_true, or_of, rises_by}
 use Rattle.columns.specs.Refusals.{tell, done}
 use Rattle.columns.specs.Columns.{Columns, first_in, end_in, falls}
@@ -12,8 +13,11 @@ use Rattle.columns.specs.Unchecked.{RunThere}
 use Rattle.columns.proofs.CheckLaws.{or_false}
 use Rattle.plan.specs.Spans.{in_chunk, Spread}
 use Rattle.products.specs.Orders.{spans_told, entry_out, span_bad, chunk_bad, starts_bad, plan_bad}
-use Rattle.products.specs.Side.{side_number}
-use Rattle.products.specs.PlanCheck.{rows_only, row_out, ends_out, in_column, narrowed, shape_out, shape_out_at, rows_out_at, rows_stop, rows_stop_at, span_out, span_out_at, Risen, Window, SomeThere, FewThere, EntriesThere, StartsThere, SpansThere, ChunkThere, ChunksThere, PlanThere}
+use Rattle.columns.specs.declared.refusal.Side.{Side}
+use Rattle.columns.specs.declared.refusal.Side.TheVariants.{Kept, Eliminated}
+use Rattle.columns.specs.Refusals as refusals
+use Rattle.products.specs.Side.{eliminated, side_number}
+use Rattle.products.specs.PlanCheck.{rows_only, row_out, ends_out, in_column, narrowed, shape_out, shape_out_at, rows_out_at, rows_stop, rows_stop_at, span_out, span_out_at, Risen, SomeThere, FewThere, EntriesThere, StartsThere, SpansThere, ChunkThere, ChunksThere, PlanThere}
 
 or_none : (b : Bool) → (b || false) ≡ b
 or_none true = refl
@@ -24,6 +28,27 @@ or_true true = refl
 or_true false = refl
 
 -- ---- places
+
+-- places 0 up to n of one test are places a up to a + n of another
+module _ (f g : ℕ → Bool) (a : ℕ) where
+  moved_from : (m i : ℕ) → ((k : ℕ) → k < i + m → f k ≡ g (a + k)) → some f i (i + m) ≡ some g (a + i) (a + i + m)
+  moved_from zero i e = some_none f i (i + 0) (omega arith) ∙ sym (some_none g (a + i) (a + i + 0) (omega arith))
+  moved_from (suc m) i e =
+      let x : i + 1 + m ≡ i + suc m = omega arith in
+      let y : a + (i + 1) ≡ a + i + 1 = omega arith in
+      let z : a + i + 1 + m ≡ a + i + suc m = omega arith in
+      some_first f i (i + suc m) (omega arith)
+      ∙ rw (e i (omega arith)) (ap (λ (b : Bool). g (a + i) || b) (rw (x, y, z) at (moved_from m (i + 1) (λ k h. e k (omega arith)))))
+      ∙ sym (some_first g (a + i) (a + i + suc m) (omega arith))
+
+  some_moved : (n : ℕ) → ((k : ℕ) → k < n → f k ≡ g (a + k)) → some f 0 n ≡ some g a (a + n)
+  some_moved n e = rw (zero-add, add-zero) at (moved_from n 0 (λ k h. e k (omega arith)))
+
+part-at : (l : List ℕ) (a n k : ℕ) → k < n → get_or (take n (drop a l)) k 0 ≡ get_or l (a + k) 0
+part-at l a n k h = get_or-take n (drop a l) k 0 h ∙ get_or-drop a l k 0
+
+length-part : (l : List ℕ) (a n : ℕ) → a + n ≤ length l → length (take n (drop a l)) ≡ n
+length-part l a n h = simp (length-take, length-drop) (omega arith)
 
 module _ (bad : ℕ → Bool) where
   -- places before k, where the test holds at none, may be left out
@@ -59,23 +84,35 @@ module _ (bad : ℕ → Bool) where
 
 -- ---- entries and spans
 
--- r is what the code subtracted, which wraps where the row is below `from`
-pub row-is-out : (rows : List ℕ) (from size p r : ℕ) → Window from size → r < 2 ^ 32 → (r + from) % 2 ^ 32 ≡ get_or rows p 0
-    → leb size r ≡ row_out rows from (from + size) p
-unfolding row_out
-row-is-out rows from size p r w h e = go (dec_lt (r + from) (2 ^ 32))
+-- x is what the code subtracted of row r, which wraps where the row is below `from`
+pub row-is-out : (from size r x : ℕ) → from + size ≤ 4_294_967_295 → x < 2 ^ 32 → (x + from) % 2 ^ 32 ≡ r → leb size x ≡ (ltb r from || leb (from + size) r)
+row-is-out from size r x w h e = go (dec_lt (x + from) (2 ^ 32))
   where
-    go : Dec (r + from < 2 ^ 32) → leb size r ≡ (ltb (get_or rows p 0) from || leb (from + size) (get_or rows p 0))
+    go : Dec (x + from < 2 ^ 32) → leb size x ≡ (ltb r from || leb (from + size) r)
     go (yes q) =
-        let z : get_or rows p 0 ≡ r + from = omega (arith, e) in
-        rw (le-ltb (get_or rows p 0) from (omega arith)) (at (dec_lt r size) z)
+        let z : r ≡ x + from = omega (arith, e) in
+        rw (le-ltb r from (omega arith)) (at (dec_lt x size) z)
       where
-        at : Dec (r < size) → get_or rows p 0 ≡ r + from → leb size r ≡ leb (from + size) (get_or rows p 0)
-        at (yes g) z = rw (lt-leb size r g, lt-leb (from + size) (get_or rows p 0) (omega arith))
-        at (no g) z = rw (le-leb size r (omega arith), le-leb (from + size) (get_or rows p 0) (omega arith))
+        at : Dec (x < size) → r ≡ x + from → leb size x ≡ leb (from + size) r
+        at (yes g) z = rw (lt-leb size x g, lt-leb (from + size) r (omega arith))
+        at (no g) z = rw (le-leb size x (omega arith), le-leb (from + size) r (omega arith))
     go (no q) =
-        let z : get_or rows p 0 + 2 ^ 32 ≡ r + from = omega (arith, e) in
-        rw (lt-ltb (get_or rows p 0) from (omega arith)) (le-leb size r (omega (arith, w.small)))
+        let z : r + 2 ^ 32 ≡ x + from = omega (arith, e) in
+        rw (lt-ltb r from (omega arith)) (le-leb size x (omega arith))
+
+pub row_told : (rows : List ℕ) (from end p : ℕ) (t : Bool) → t ≡ (ltb (get_or rows p 0) from || leb end (get_or rows p 0)) → t ≡ row_out rows from end p
+unfolding row_out
+row_told rows from end p t e = e
+
+-- t is what the code was told of the row at place i of the part from lo up to hi
+pub part_turn : (rows : List ℕ) (from end lo hi i : ℕ) (b t z : Bool) → RunThere (length rows) lo hi → i < length (take (hi - lo) (drop lo rows))
+    → t ≡ (ltb (get_or (take (hi - lo) (drop lo rows)) i 0) from || leb end (get_or (take (hi - lo) (drop lo rows)) i 0))
+    → (b || some (row_out rows from end) (lo + i) hi) ≡ z → ((b || t) || some (row_out rows from end) (lo + (i + 1)) hi) ≡ z
+part_turn rows from end lo hi i b t z there h e inv =
+    let n : i < hi - lo = omega (arith, h, length-part rows lo (hi - lo) (omega (arith, there.order, there.inside))) in
+    let q : t ≡ row_out rows from end (lo + i) = row_told rows from end (lo + i) t (rw (part-at rows lo (hi - lo) i n) at e) in
+    let k : lo + (i + 1) ≡ lo + i + 1 = omega arith in
+    rw k (some_turn (row_out rows from end) b (b || t) (omega arith) inv (ap (λ (u : Bool). b || u) q))
 
 pub ends_are_out : (rows : List ℕ) (from end a b : ℕ) (t : Bool) → t ≡ row_out rows from end a → t ≡ true → true ≡ ends_out rows from end a b
 unfolding ends_out
@@ -216,7 +253,7 @@ module _ (rows : List ℕ) (from end a b more : ℕ) (small : more < 2 ^ 32) (e 
     pub stops_rows : (t : Bool) → 1 < more → more ≤ 5 → t ≡ some (row_out rows from end) x y → t ≡ rows_stop rows from end a b
     stops_rows t l m f = rw (i, j) at f ∙ stops_by (omega (arith, small, e)) (omega (arith, small, e))
 
--- the pass over them leaves out good ones alone
+-- spans that do not stop are good
 module _ (rows : List ℕ) (from end : ℕ) (lo hi : List ℕ) where
   stops_out : (k : ℕ) → rows_stop_at rows from end lo hi k ≡ false → rows_out_at rows from end lo hi k ≡ false
   unfolding rows_stop_at rows_stop rows_out_at
@@ -226,44 +263,20 @@ module _ (rows : List ℕ) (from end : ℕ) (lo hi : List ℕ) where
       let bad = some (row_out rows from end) a b in
       (or_false (ltb 6 (b - a)) bad (or_false (leb b a) (ltb 6 (b - a) || bad) e).1).1
 
-  module _ (at k last : ℕ) (e : k ≡ first (rows_stop_at rows from end lo hi) at last) where
-    pub few_passed : (z : Bool) → some (rows_out_at rows from end lo hi) at last ≡ z → some (rows_out_at rows from end lo hi) k last ≡ z
-    few_passed z inv =
-        rw e (some_from (rows_out_at rows from end lo hi) at (first (rows_stop_at rows from end lo hi) at last) last (first-low (rows_stop_at rows from end lo hi) at last) (λ i p q. stops_out i (first-before (rows_stop_at rows from end lo hi) at last i p q)))
-        ∙ inv
+  -- so the search may go on at the next that does
+  pub from_stop : (at k n : ℕ) (z : Bool) → at ≤ k → None (rows_stop_at rows from end lo hi) at k → some (rows_out_at rows from end lo hi) at n ≡ z → some (rows_out_at rows from end lo hi) k n ≡ z
+  from_stop at k n z l none inv = some_from (rows_out_at rows from end lo hi) at k n l (λ i p q. stops_out i (none i p q)) ∙ inv
 
-    pub few-low : at ≤ k
-    few-low = omega (arith, first-low (rows_stop_at rows from end lo hi) at last, e)
+  pub no_stop : (at n : ℕ) (z : Bool) → None (rows_stop_at rows from end lo hi) at n → some (rows_out_at rows from end lo hi) at n ≡ z → false ≡ z
+  no_stop at n z none inv = sym (none_past (rows_out_at rows from end lo hi) at n (λ i p q. stops_out i (none i p q))) ∙ inv
 
-  pub few_later : (low k i last : ℕ) → low ≤ k → i ≡ first (rows_stop_at rows from end lo hi) (k + 1) last → low ≤ i
-  few_later low k i last l e = omega (arith, few-low (k + 1) i last e)
-
-  -- and goes on
-  pub few_goes : (k i last : ℕ) → k < last → i ≡ first (rows_stop_at rows from end lo hi) (k + 1) last → last - i < last - k
-  few_goes k i last h e = omega (arith, few-low (k + 1) i last e)
-
-  -- t is what `rows_stop` answered, or `rows_out` of a and b as the code read them
-  pub stops_told : (k : ℕ) (t z : Bool) → t ≡ rows_stop rows from end (get_or lo k 0) (get_or hi k 0) → t ≡ z → rows_stop_at rows from end lo hi k ≡ z
-  unfolding rows_stop_at
-  stops_told k t z e u = sym e ∙ u
-
-  pub rows_told : (k a b : ℕ) (t z : Bool) → a ≡ get_or lo k 0 → b ≡ get_or hi k 0 → t ≡ some (row_out rows from end) a b → t ≡ z → rows_out_at rows from end lo hi k ≡ z
+  -- t is what `rows_out` answered of a and b as the code read them
+  pub span_told : (k a b : ℕ) (t z : Bool) → a ≡ get_or lo k 0 → b ≡ get_or hi k 0 → t ≡ some (row_out rows from end) a b → t ≡ z → rows_out_at rows from end lo hi k ≡ z
   unfolding rows_out_at
-  rows_told k a b t z p q e u = rw (← p, ← q) (sym e ∙ u)
+  span_told k a b t z p q e u = rw (← p, ← q) (sym e ∙ u)
 
--- all of them are passed
-pub pass_ends : (bad : ℕ → Bool) {k hi z : ℕ} → hi ≤ k → first bad k hi ≡ z → k ≡ z
-pass_ends bad {k} {hi} h inv = sym (first_none bad k hi h) ∙ inv
-
-module _ (n : ℕ) (lo hi : List ℕ) (at last : ℕ) (r : EntriesThere n lo hi at last) where
-  pub run_at_lem : (k : ℕ) → at ≤ k → k < last → RunThere n (get_or lo k 0) (get_or hi k 0)
-  run_at_lem k l h = r.each k l h
-
-  pub run_read : (k a b : ℕ) → at ≤ k → k < last → a ≡ get_or lo k 0 → b ≡ get_or hi k 0 → RunThere n a b
-  run_read k a b l h e f = rw (e, f) (r.each k l h)
-
-  pub runs_later : (k : ℕ) → at ≤ k → EntriesThere n lo hi (k + 1) last
-  runs_later k l = record { lo-there = r.lo-there; hi-there = r.hi-there; each = λ i p q. r.each i (omega arith) q }
+pub run_read : (n : ℕ) (lo hi : List ℕ) → EntriesThere n lo hi → (k a b : ℕ) → k < length lo → a ≡ get_or lo k 0 → b ≡ get_or hi k 0 → RunThere n a b
+run_read n lo hi there k a b h x y = rw (x, y) (there.each k h)
 
 -- ---- spans
 
@@ -343,15 +356,14 @@ module _ (rows : List ℕ) (from end dof : ℕ) (lo hi local : List ℕ) where
       spans-rows u f =
           f ∙ rw (first_same (rows_out_at rows from end lo hi) (span_out_at rows from end dof lo hi local) at last (λ i l h. sym (span_splits i ∙ rw (past_none shape at last (sym e ∙ q) i l h))))
 
-      pub spans-run : SpansThere (length lo) (length hi) (length local) last → EntriesThere (length rows) lo hi at last
+      pub spans-run : SpansThere (length lo) (length hi) (length local) → at ≡ 0 → last ≡ length lo → EntriesThere (length rows) lo hi
       unfolding shape_out_at shape_out
-      spans-run s = record {
-        lo-there = s.lo;
+      spans-run s p z = record {
         hi-there = s.hi;
-        each = λ k l h.
+        each = λ k h.
             let a = get_or lo k 0 in
             let b = get_or hi k 0 in
-            let g = past_none shape at last (sym e ∙ q) k l h in
+            let g = past_none shape at last (sym e ∙ q) k (omega arith) (omega arith) in
             let x = or_false (ltb b a) (ltb (length rows) b || leb dof (get_or local k 0)) g in
             let y = or_false (ltb (length rows) b) (leb dof (get_or local k 0)) x.1 in
             record { order = ltb-false b a x.0; inside = ltb-false (length rows) b y.0 };
@@ -376,18 +388,23 @@ module _ (rows : List ℕ) (len c : ℕ) where
     unfolding span_out_at span_out span_bad
     span_is_bad k = rw (first_same (row_out rows (c * len) (c * len + len)) (entry_out (rows_only rows) len c) (get_or s.lo k 0) (get_or s.hi k 0) (λ p _ _. entry-is-out p))
 
-    -- first and last are what the code read
-    pub chunk_told_lem : (first last : ℕ) (t : Bool) → first ≡ get_or s.starts c 0 → last ≡ get_or s.starts (c + 1) 0
-        → t ≡ some (span_out_at rows (c * len) (c * len + len) dof s.lo s.hi s.local) first last → t ≡ chunk_bad (rows_only rows) dof len s c
-    unfolding chunk_bad
-    chunk_told_lem first last t p q e =
-        e ∙ rw (p, q, first_same (span_out_at rows (c * len) (c * len + len) dof s.lo s.hi s.local) (span_bad (rows_only rows) dof len s c) (get_or s.starts c 0) (get_or s.starts (c + 1) 0) (λ k _ _. span_is_bad k))
+    -- from and last are what the code read, and lo, hi and local the spans from the one up to the other
+    pub chunk_told_lem : (from last : ℕ) (lo hi local : List ℕ) (t : Bool) → from ≡ get_or s.starts c 0 → last ≡ get_or s.starts (c + 1) 0
+        → ChunkThere len s.starts (length s.lo) (length s.hi) (length s.local) c
+        → lo ≡ take (last - from) (drop from s.lo) → hi ≡ take (last - from) (drop from s.hi) → local ≡ take (last - from) (drop from s.local)
+        → t ≡ some (span_out_at rows (c * len) (c * len + len) dof lo hi local) 0 (length lo) → t ≡ chunk_bad (rows_only rows) dof len s c
+    unfolding chunk_bad span_out_at
+    chunk_told_lem from last lo hi local t p q there x y z e =
+        let n = last - from in
+        let g : length lo ≡ n = ap length x ∙ length-part s.lo from n (omega (arith, there.lo, there.rise)) in
+        let u : from + n ≡ last = omega (arith, there.rise) in
+        let w : some (span_out_at rows (c * len) (c * len + len) dof lo hi local) 0 n ≡ some (span_bad (rows_only rows) dof len s c) from (from + n) =
+        some_moved (span_out_at rows (c * len) (c * len + len) dof lo hi local) (span_bad (rows_only rows) dof len s c) from n
+        (λ k h. rw (x, y, z, part-at s.lo from n k h, part-at s.hi from n k h, part-at s.local from n k h) (span_is_bad (from + k))) in
+        e ∙ ap (λ (k : ℕ). some (span_out_at rows (c * len) (c * len + len) dof lo hi local) 0 k) g ∙ w ∙ rw (u, p, q)
 
-pub chunk_window : (len : ℕ) (starts : List ℕ) (nlo nhi nlocal c : ℕ) → ChunkThere len starts nlo nhi nlocal c → Window (c * len) len
-chunk_window len starts nlo nhi nlocal c h = record { small = h.small }
-
-pub chunk_spans_lem : (len : ℕ) (starts : List ℕ) (nlo nhi nlocal c last : ℕ) → ChunkThere len starts nlo nhi nlocal c → last ≡ get_or starts (c + 1) 0 → SpansThere nlo nhi nlocal last
-chunk_spans_lem len starts nlo nhi nlocal c last h e = rw e h.spans
+pub chunk_window : (len : ℕ) (starts : List ℕ) (nlo nhi nlocal c : ℕ) → ChunkThere len starts nlo nhi nlocal c → c * len + len ≤ 4_294_967_295
+chunk_window len starts nlo nhi nlocal c h = h.small
 
 pub chunk_at_lem : {len chunks : ℕ} {starts : List ℕ} {nlo nhi nlocal c : ℕ} → ChunksThere len chunks starts nlo nhi nlocal → c < chunks → ChunkThere len starts nlo nhi nlocal c
 chunk_at_lem {c = c} h l = h.each c l
@@ -469,21 +486,28 @@ module _ (len chunks : ℕ) (starts : List ℕ) (nlo nhi nlocal : ℕ) (p : Plan
             record {
               there = omega (arith, p.starts);
               small = omega (arith, p.small);
-              spans = record { lo = w; hi = rw p.hi w; local = rw p.local w };
+              rise = r.rises c h;
+              lo = w;
+              hi = rw p.hi w;
+              local = rw p.local w;
             };
       }
 
-module _ (e : Bool) (m : Columns) (dof len chunks : ℕ) (s : Spread) (t : Bool) (call : t ≡ starts_bad chunks s.starts (length s.lo)) where
-  pub plan-falls : (n : ℕ) → t ≡ true → n ≡ side_number e → tell 13 (n ∷ []) ≡ spans_told e m dof len chunks s
+side_told : (side : Side) → refusals.side_number side ≡ side_number (eliminated side)
+side_told Kept = refl
+side_told Eliminated = refl
+
+module _ (side : Side) (m : Columns) (dof len chunks : ℕ) (s : Spread) (t : Bool) (call : t ≡ starts_bad chunks s.starts (length s.lo)) where
+  pub plan-falls : t ≡ true → tell 13 (refusals.side_number side ∷ []) ≡ spans_told (eliminated side) m dof len chunks s
   unfolding plan_bad starts_bad
-  plan-falls n q p = rw (sym call ∙ q, p)
+  plan-falls q = rw (sym call ∙ q, side_told side)
 
   module _ (q : t ≡ false) (u : Bool) (chunk : u ≡ some (chunk_bad m dof len s) 0 chunks) where
-    pub plan-out : (n : ℕ) → u ≡ true → n ≡ side_number e → tell 13 (n ∷ []) ≡ spans_told e m dof len chunks s
+    pub plan-out : u ≡ true → tell 13 (refusals.side_number side ∷ []) ≡ spans_told (eliminated side) m dof len chunks s
     unfolding plan_bad starts_bad
-    plan-out n z p = rw (sym call ∙ q, ← chunk, z, p)
+    plan-out z = rw (sym call ∙ q, ← chunk, z, side_told side)
 
-    pub plan-done : u ≡ false → done ≡ spans_told e m dof len chunks s
+    pub plan-done : u ≡ false → done ≡ spans_told (eliminated side) m dof len chunks s
     unfolding plan_bad starts_bad
     plan-done z = rw (sym call ∙ q, ← chunk, z)
 
@@ -492,7 +516,6 @@ pub ruleset planning = (
   by_call,
   first_turn,
   first_stop,
-  pass_ends,
   some_goes,
   some_stops,
   some-ends,
@@ -500,6 +523,7 @@ pub ruleset planning = (
   some-done,
   or_of,
   row-is-out,
+  row_told,
   ends_are_out,
   last_is-out,
   few-first,
@@ -511,15 +535,9 @@ pub ruleset planning = (
   stops_many,
   stops_ends,
   stops_rows,
-  stops_told,
-  rows_told,
-  few_passed,
-  few-low,
-  few_later,
-  few_goes,
-  run_at_lem,
   run_read,
-  runs_later,
+  no_stop,
+  span_told,
   narrow_more,
   narrow_same,
   shape_told,
@@ -535,7 +553,6 @@ pub ruleset planning = (
   ends-out,
   no_rows-out,
   chunk_told_lem,
-  chunk_spans_lem,
   chunk_at_lem,
   starts_first,
   starts_fall,

@@ -9,8 +9,8 @@ use Rattle.ground.specs.Gather.{gather, list_of}
 use Rattle.ground.proofs.FirstLaws.{past_none}
 use Rattle.ground.proofs.ListLaws.{list_of_same}
 use Rattle.columns.specs.declared.refusal.Refusal.{Refusal}
-use Rattle.columns.specs.declared.refusal.Answer.{Answer}
-use Rattle.columns.specs.declared.refusal.Answer.TheVariants.{Done, Refused}
+use Rattle.columns.specs.Refusals.{Answer}
+use Rattle.std.specs.Prelude.{Ok, Err}
 use Rattle.columns.specs.declared.unchecked.Sign.{Sign}
 use Rattle.columns.specs.Refusals.{Told, tell, done, refused, told, Passes, on_pass, or_else}
 use Rattle.columns.specs.Lengths.{wrong_length}
@@ -102,10 +102,10 @@ module _ (e : Bool) (m : Columns) (kept elims : List ℕ) (len : ℕ) (map : Lis
     unfolding check_sweep
     map_is = ap (λ (w : Mapped). w.map) call ∙ rw checks_are
 
-    stops : (r : Refusal) → t ≡ Refused r → (rest : Told) → sweep_told e m kept elims len map v s y p rest ≡ refused r
+    stops : (r : Refusal) → t ≡ Err r → (rest : Told) → sweep_told e m kept elims len map v s y p rest ≡ refused r
     stops r d rest = told_is rest ∙ rw (checks_are, d) (or_refused r rest)
 
-    pub step_refused : (c : ℕ) (r : Refusal) → t ≡ Refused r → record { told = refused r; map = map'; rows = y; progress = p } ≡ step_of e m kept elims len map v s y p c
+    pub step_refused : (c : ℕ) (r : Refusal) → t ≡ Err r → record { told = refused r; map = map'; rows = y; progress = p } ≡ step_of e m kept elims len map v s y p c
     unfolding step_of
     step_refused c r d =
         rw (
@@ -115,7 +115,7 @@ module _ (e : Bool) (m : Columns) (kept elims : List ℕ) (len : ℕ) (map : Lis
         )
         (ap (λ (l : List ℕ). record { told = refused r; map = l; rows = y; progress = p }) (map_is ∙ rw d))
 
-    pub sweep_refused : (order : List ℕ) (r : Refusal) → t ≡ Refused r → record { told = refused r; map = map'; rows = y; progress = p } ≡ sweep_of e m kept elims len map v s y p order
+    pub sweep_refused : (order : List ℕ) (r : Refusal) → t ≡ Err r → record { told = refused r; map = map'; rows = y; progress = p } ≡ sweep_of e m kept elims len map v s y p order
     unfolding sweep_of
     sweep_refused order r d =
         rw (
@@ -128,7 +128,7 @@ module _ (e : Bool) (m : Columns) (kept elims : List ℕ) (len : ℕ) (map : Lis
         )
         (ap (λ (l : List ℕ). record { told = refused r; map = l; rows = y; progress = p }) (map_is ∙ rw d))
 
-    module _ (d : t ≡ Done) where
+    module _ (d : t ≡ Ok tt) where
       checks_done : checks ≡ done
       checks_done = checks_are ∙ ap told d
 
@@ -211,7 +211,7 @@ module _ (e : Bool) (m : Columns) (kept elims : List ℕ) (len : ℕ) (map : Lis
         unfolding tested_order
         zeros_are = ap (λ (w : Tested). w.progress) test
 
-        pub sweep_bad : (r : Refusal) (k : ℕ) (map₂ : List ℕ) → o ≡ Refused r → k ≡ column_count m → map₂ ≡ marked k map'
+        pub sweep_bad : (r : Refusal) (k : ℕ) (map₂ : List ℕ) → o ≡ Err r → k ≡ column_count m → map₂ ≡ marked k map'
             → record { told = refused r; map = map₂; rows = y; progress = p₁ } ≡ sweep_of e m kept elims len map v s y p order
         unfolding sweep_of
         sweep_bad r k map₂ q a b =
@@ -228,7 +228,7 @@ module _ (e : Bool) (m : Columns) (kept elims : List ℕ) (len : ℕ) (map : Lis
             )
             (ap (λ (l : List ℕ). record { told = refused r; map = l; rows = y; progress = replicate (chunk_count_of m.nrows len) 0 }) (marks-left r k map₂ a b))
 
-        module _ (q : o ≡ Done) where
+        module _ (q : o ≡ Ok tt) where
           order-good : bad_order (length p) s order ≡ done
           order-good = ap (λ (n : ℕ). bad_order n s order) size ∙ bad_is ∙ ap told q
 

@@ -7,12 +7,13 @@ use Rattle.ground.specs.Gather.{list_of}
 use Rattle.ground.proofs.FirstLaws.{past_none}
 use Rattle.ground.proofs.GatherLaws.{length-list_of}
 use Rattle.columns.specs.declared.refusal.Refusal.{Refusal}
-use Rattle.columns.specs.declared.refusal.Answer.{Answer}
-use Rattle.columns.specs.declared.refusal.Answer.TheVariants.{Done, Refused}
+use Rattle.columns.specs.Refusals.{Answer}
+use Rattle.std.specs.Prelude.{Ok, Err}
+use Rattle.std.specs.Result.{result_and}
 use Rattle.columns.specs.Refusals.{Told, done, refused, told, Passes, on_pass, or_else}
 use Rattle.columns.specs.Lengths.{no_room_of, wrong_length}
 use Rattle.columns.specs.Columns.{Columns, column_count, entry_count, first_in, end_in, Keeps}
-use Rattle.columns.proofs.RefusalLaws.{pass_refused, pass_done, both_pass, passed, or_refused, or_done, or_assoc}
+use Rattle.columns.proofs.RefusalLaws.{pass_refused, pass_done, both_pass, passed, or_refused, or_done, or_assoc, and_told}
 use Rattle.columns.proofs.CheckLaws.{or_false, passes_keeps, column-ascends}
 use Rattle.columns.proofs.CallLaws.{lengths_right, room-right}
 use Rattle.blocks.specs.Sides.{side_dof, side_of}
@@ -25,8 +26,8 @@ use Rattle.plan.specs.Spans.{chunk_told, chunk_count_of, in_chunk, Spread}
 use Rattle.plan.specs.SpanWalk.{Chunked}
 use Rattle.plan.proofs.ChunkLaws.{chunk_passes}
 use Rattle.plan.proofs.SpanCalls.{side_dof_lem}
-use Rattle.products.specs.declared.side.Side.{Side}
-use Rattle.products.specs.declared.side.Side.TheVariants.{Kept, Eliminated}
+use Rattle.columns.specs.declared.refusal.Side.{Side}
+use Rattle.columns.specs.declared.refusal.Side.TheVariants.{Kept, Eliminated}
 use Rattle.products.specs.Orders.{lent_lengths, spans_told, entry_out, span_bad, chunk_bad, starts_bad, plan_bad, bad_plan, early_chunked}
 use Rattle.products.specs.Side.{eliminated}
 use Rattle.products.specs.PlanCheck.{Risen, rows_only, PlanThere}
@@ -64,17 +65,17 @@ module _ (m : Columns) (kept elims : List ℕ) (len : ℕ) (map : List ℕ) wher
 
   -- k is the column count that the code read; rest is what the later of the early checks told
   module _ (k : ℕ) (chunk room rest parts : Answer) (count : k ≡ column_count m) (c : told chunk ≡ chunk_told len) (w : told room ≡ no_room_of (length map ∷ k ∷ []))
-      (o : told rest ≡ or_else (told chunk) (told room)) (p : told parts ≡ parts_told m kept elims (told rest)) where
+      (o : rest ≡ result_and chunk room) (p : told parts ≡ parts_told m kept elims (told rest)) where
     early_is : told parts ≡ early_chunked m kept elims len map
-    early_is = p ∙ rw (o, c, w, count)
+    early_is = p ∙ rw (o, and_told chunk room, c, w, count)
 
-    pub chunked-refused : (r : Refusal) → parts ≡ Refused r → record { told = refused r; map = map } ≡ check_chunked m kept elims len map
+    pub chunked-refused : (r : Refusal) → parts ≡ Err r → record { told = refused r; map = map } ≡ check_chunked m kept elims len map
     unfolding check_chunked
     chunked-refused r e =
         let q : early_chunked m kept elims len map ≡ refused r = sym early_is ∙ ap told e in
         rw (q, or_refused r (late_blocks m kept elims), pass_refused r (on_pass (refused r) (list_of (place_of cs) n) (replicate n mark) ++ drop n map) map)
 
-    module _ (e : parts ≡ Done) where
+    module _ (e : parts ≡ Ok tt) where
       early_done : early_chunked m kept elims len map ≡ done
       early_done = sym early_is ∙ ap told e
 
@@ -101,6 +102,14 @@ chunks_of m kept elims len map e l =
     let k = passes_keeps m a.0 in
     record { keeps = k; parted = walk_parted m kept elims a.1 a.2 l; chunked = chunk_passes m.nrows len b.0 k.small.few-rows }
 
+-- what it gives the checks that come after
+module _ {m : Columns} {kept elims : List ℕ} {len : ℕ} (c : Chunks m kept elims len) where
+  pub chunks-asked : Risen m.ptrs m.rows × Chunked m.nrows len
+  chunks-asked = (risen_of m c.keeps, c.chunked)
+
+  pub chunks_sides : FewSides kept elims
+  chunks_sides = record { kept-few = record { few = side_dof_lem m kept elims c.keeps c.parted false }; elims-few = record { few = side_dof_lem m kept elims c.keeps c.parted true } }
+
 -- what the map holds once 1 to 9 have passed: it is filled, and a later refusal marks it
 module _ (m : Columns) (kept elims : List ℕ) (len : ℕ) (map : List ℕ) (early : Passes (early_chunked m kept elims len map)) where
   abbrev filled : List ℕ
@@ -122,7 +131,7 @@ module _ (m : Columns) (kept elims : List ℕ) (len : ℕ) (map : List ℕ) (ear
       ∙ sym (pass_done (early_chunked m kept elims len map) _ map early ∙ ap (λ (l : List ℕ). l ++ drop (column_count m) map) (pass_refused r filled (replicate (column_count m) mark)))
 
 -- t is what `check_chunked` answered, and map' the map that it left
-module _ (m : Columns) (kept elims : List ℕ) (len : ℕ) (map : List ℕ) (t : Answer) (map' : List ℕ) (call : record { told = told t; map = map' } ≡ check_chunked m kept elims len map) (d : t ≡ Done) where
+module _ (m : Columns) (kept elims : List ℕ) (len : ℕ) (map : List ℕ) (t : Answer) (map' : List ℕ) (call : record { told = told t; map = map' } ≡ check_chunked m kept elims len map) (d : t ≡ Ok tt) where
   both_done : or_else (early_chunked m kept elims len map) (late_blocks m kept elims) ≡ done
   unfolding check_chunked
   both_done = sym (ap (λ (w : Mapped). w.told) call) ∙ ap told d
@@ -132,9 +141,6 @@ module _ (m : Columns) (kept elims : List ℕ) (len : ℕ) (map : List ℕ) (t :
 
   pub chunked_passes : Chunks m kept elims len
   chunked_passes = chunks_of m kept elims len map both_passes.0 both_passes.1
-
-  late_done : late_blocks m kept elims ≡ done
-  late_done = sym (pass_done (early_chunked m kept elims len map) (late_blocks m kept elims) (early_chunked m kept elims len map) both_passes.0) ∙ both_done
 
   map-filled : map' ≡ list_of (place_of (claims (column_count m) kept elims)) (column_count m) ++ drop (column_count m) map
   unfolding check_chunked
@@ -174,17 +180,17 @@ module _ (e : Bool) (nrows : ℕ) (m : Columns) (dof len nv : ℕ) (s : Spread) 
   wrong_is : told w ≡ wrong_length (lent_lengths nrows dof len nv s ny np)
   wrong_is = call ∙ rw count
 
-  pub lent-refused : (r : Refusal) → w ≡ Refused r → refused r ≡ lent_sweep e nrows m dof len nv s ny np
+  pub lent-refused : (r : Refusal) → w ≡ Err r → refused r ≡ lent_sweep e nrows m dof len nv s ny np
   unfolding lent_sweep
   lent-refused r q = rw (← wrong_is, q) (sym (or_refused r _))
 
-  pub lent-there : Chunked nrows len → w ≡ Done → PlanThere len chunks (length s.starts) (length s.lo) (length s.hi) (length s.local)
+  pub lent-there : Chunked nrows len → w ≡ Ok tt → PlanThere len chunks (length s.starts) (length s.lo) (length s.hi) (length s.local)
   lent-there c q =
       let p : Passes (wrong_length (lent_lengths nrows dof len nv s ny np)) = ap (λ (t : Told). t.number) (sym wrong_is ∙ ap told q) in
       let r = lengths_right (lent_lengths nrows dof len nv s ny np) p in
       rw count (record { starts = r 1 (omega arith); hi = r 3 (omega arith); local = r 4 (omega arith); small = small_end nrows len c })
 
-  pub lent-plan : (t : Answer) → w ≡ Done → told t ≡ spans_told e m dof len chunks s → told t ≡ lent_sweep e nrows m dof len nv s ny np
+  pub lent-plan : (t : Answer) → w ≡ Ok tt → told t ≡ spans_told e m dof len chunks s → told t ≡ lent_sweep e nrows m dof len nv s ny np
   unfolding lent_sweep
   lent-plan t q p = p ∙ rw (← wrong_is, q, count) (sym (or_done _))
 
@@ -197,7 +203,7 @@ plan-told-is e m side len s = refl
 
 module _ (e : Bool) (m : Columns) (kept elims : List ℕ) (len : ℕ) (map : List ℕ) (nv : ℕ) (s : Spread) (ny np : ℕ) (t : Answer) (map' : List ℕ)
     (call : record { told = told t; map = map' } ≡ check_chunked m kept elims len map) where
-  pub sweep_refused : (r : Refusal) → t ≡ Refused r → record { told = refused r; map = map' } ≡ check_sweep e m kept elims len map nv s ny np
+  pub sweep_refused : (r : Refusal) → t ≡ Err r → record { told = refused r; map = map' } ≡ check_sweep e m kept elims len map nv s ny np
   unfolding check_sweep check_chunked
   sweep_refused r q =
       let a : or_else (early_chunked m kept elims len map) (late_blocks m kept elims) ≡ refused r = sym (ap (λ (w : Mapped). w.told) call) ∙ ap told q in
@@ -205,16 +211,7 @@ module _ (e : Bool) (m : Columns) (kept elims : List ℕ) (len : ℕ) (map : Lis
       let w : map' ≡ chunked_left (refused r) m kept elims len map = rw a at (ap (λ (w : Mapped). w.map) call) in
       rw (b, w)
 
-  module _ (d : t ≡ Done) where
-    -- what the check of the lent plan asks
-    pub sweep_asked : Risen m.ptrs m.rows × Chunked m.nrows len
-    sweep_asked = (risen_of m (chunked_passes m kept elims len map t map' call d).keeps, (chunked_passes m kept elims len map t map' call d).chunked)
-
-    pub sweep_sides : FewSides kept elims
-    sweep_sides =
-        let p = chunked_passes m kept elims len map t map' call d in
-        record { kept-few = record { few = side_dof_lem m kept elims p.keeps p.parted false }; elims-few = record { few = side_dof_lem m kept elims p.keeps p.parted true } }
-
+  module _ (d : t ≡ Ok tt) where
     -- dof is what the code counted, and l what `check_lent` answered
     module _ (dof : ℕ) (l : Answer) (count : dof ≡ side_dof (side_of e kept elims)) (lent : told l ≡ lent_sweep e m.nrows (rows_only m.rows) dof len nv s ny np) where
       checks_are : checks_told e m kept elims len map nv s ny np ≡ told l
@@ -223,11 +220,11 @@ module _ (e : Bool) (m : Columns) (kept elims : List ℕ) (len : ℕ) (map : Lis
           rest_is m kept elims len map t map' call d _
           ∙ sym (lent ∙ rw (count, plan-told-is e m (side_of e kept elims) len s))
 
-      pub sweep_later : (r : Refusal) (k : ℕ) (map₂ : List ℕ) → l ≡ Refused r → k ≡ column_count m → map₂ ≡ marked k map' → record { told = refused r; map = map₂ } ≡ check_sweep e m kept elims len map nv s ny np
+      pub sweep_later : (r : Refusal) (k : ℕ) (map₂ : List ℕ) → l ≡ Err r → k ≡ column_count m → map₂ ≡ marked k map' → record { told = refused r; map = map₂ } ≡ check_sweep e m kept elims len map nv s ny np
       unfolding check_sweep
       sweep_later r k map₂ q c z = rw (checks_are, q, late_marked m kept elims len map t map' call d r k map₂ c z)
 
-      pub sweep_done : l ≡ Done → record { told = done; map = map' } ≡ check_sweep e m kept elims len map nv s ny np
+      pub sweep_done : l ≡ Ok tt → record { told = done; map = map' } ≡ check_sweep e m kept elims len map nv s ny np
       unfolding check_sweep
       sweep_done q = rw (checks_are, q) (ap (λ (z : List ℕ). record { told = done; map = z }) (late_kept m kept elims len map t map' call d))
 

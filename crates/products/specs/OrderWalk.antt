@@ -81,6 +81,11 @@ ran_order sign m s v order w = ran_to sign m s v order w (length order)
 
 -- ---- what its functions ask
 
+-- a span from a to b with local number l: this is below that of nv entries, and the span's own entries' rows are below n
+pub record SpanThere (rows : List ℕ) (nvalues nv n a b l : ℕ) : Type 0 where
+  pub below : l < nv
+  pub entries : EntriesFit rows nvalues n a b
+
 -- span k is there, its local number is below that of nv entries, and its own entries' rows are below n
 pub record SpanFits (rows : List ℕ) (nvalues nv n : ℕ) (lo hi local : List ℕ) (k : ℕ) : Type 0 where
   pub lo-there : k < length lo

@@ -1,7 +1,8 @@
 -- The code's own. Refusal 13 as src/plan_check.rt finds it, and what its functions ask. Assumes nothing.
-use Rattle.std.specs.Prelude.{◌≡◌, ℕ, ◌+◌, ◌-◌, ◌*◌, ◌<◌, ◌≤◌, Bool, cond, ◌&&◌, ◌||◌, List, [], length, nat_le}
+use Rattle.std.specs.Prelude.{◌≡◌, ℕ, ◌+◌, ◌-◌, ◌*◌, ◌<◌, ◌≤◌, Bool, true, cond, ◌&&◌, ◌||◌, List, [], length, nat_le}
 use Rattle.std.specs.Prelude.{nat_lt, slice_index}
-use Rattle.ground.specs.First.{some}
+use Rattle.std.specs.Prelude.{Option, MatchOption}
+use Rattle.ground.specs.First.{some, None}
 use Rattle.columns.specs.Columns.{Columns, columns_of, first_in, end_in}
 use Rattle.columns.specs.Unchecked.{RunThere}
 
@@ -50,15 +51,15 @@ rows_stop rows from end a b = nat_le b a || (nat_lt 6 (b - a) || some (row_out r
 unfoldable pub rows_stop_at : List ℕ → ℕ → ℕ → List ℕ → List ℕ → ℕ → Bool
 rows_stop_at rows from end lo hi k = rows_stop rows from end (slice_index lo k) (slice_index hi k)
 
+-- the first of places `at` up to n where a test holds, or that there is none
+abbrev pub Found : (ℕ → Bool) → ℕ → ℕ → Option ℕ → Type 0
+Found bad at n r = MatchOption r (None bad at n) (λ k. (at ≤ k) × (k < n) × (bad k ≡ true) × None bad at k)
+
 -- ---- what its functions ask
 
 -- rows rise along each column, as those do of columns that have passed their check
 pub record Risen (ptrs rows : List ℕ) : Type 0 where
   pub rise : (j p q : ℕ) → j < length ptrs - 1 → first_in ptrs j ≤ p → p < q → q < end_in ptrs j → slice_index rows p < slice_index rows q
-
--- the rows that a chunk may have end at a list number
-pub record Window (from size : ℕ) : Type 0 where
-  pub small : from + size ≤ 4_294_967_295
 
 -- places a up to b are there, and there is one
 pub record SomeThere (n a b : ℕ) : Type 0 where
@@ -75,23 +76,24 @@ pub record FewThere (more a b : ℕ) : Type 0 where
 pub record StartsThere (n chunks : ℕ) : Type 0 where
   pub there : n ≡ chunks + 1
 
--- spans before `last` are there
-pub record SpansThere (nlo nhi nlocal last : ℕ) : Type 0 where
-  pub lo : last ≤ nlo
-  pub hi : last ≤ nhi
-  pub local : last ≤ nlocal
+-- the lists of some spans have one length
+pub record SpansThere (nlo nhi nlocal : ℕ) : Type 0 where
+  pub hi : nhi ≡ nlo
+  pub local : nlocal ≡ nlo
 
--- so are those from `first` on, and their entries among n
-pub record EntriesThere (n : ℕ) (lo hi : List ℕ) (first last : ℕ) : Type 0 where
-  pub lo-there : last ≤ length lo
-  pub hi-there : last ≤ length hi
-  pub each : (k : ℕ) → first ≤ k → k < last → RunThere n (slice_index lo k) (slice_index hi k)
+-- so have those of where their entries begin and end, and these are among n
+pub record EntriesThere (n : ℕ) (lo hi : List ℕ) : Type 0 where
+  pub hi-there : length hi ≡ length lo
+  pub each : (k : ℕ) → k < length lo → RunThere n (slice_index lo k) (slice_index hi k)
 
--- so are those of chunk c, and its end is a list number
+-- the spans of chunk c are there, and its end is a list number
 pub record ChunkThere (len : ℕ) (starts : List ℕ) (nlo nhi nlocal c : ℕ) : Type 0 where
   pub there : c + 1 < length starts
   pub small : c * len + len ≤ 4_294_967_295
-  pub spans : SpansThere nlo nhi nlocal (slice_index starts (c + 1))
+  pub rise : slice_index starts c ≤ slice_index starts (c + 1)
+  pub lo : slice_index starts (c + 1) ≤ nlo
+  pub hi : slice_index starts (c + 1) ≤ nhi
+  pub local : slice_index starts (c + 1) ≤ nlocal
 
 -- so are those of each chunk
 pub record ChunksThere (len chunks : ℕ) (starts : List ℕ) (nlo nhi nlocal : ℕ) : Type 0 where

@@ -1,7 +1,7 @@
 -- To be believed. The two sides as the code names them. Assumes nothing.
 use Rattle.std.specs.Prelude.{ℕ, Bool, true, false, cond}
-use Rattle.products.specs.declared.side.Side.{Side}
-use Rattle.products.specs.declared.side.Side.TheVariants.{Kept, Eliminated}
+use Rattle.columns.specs.declared.refusal.Side.{Side}
+use Rattle.columns.specs.declared.refusal.Side.TheVariants.{Kept, Eliminated}
 
 -- which side it is: false kept, true eliminated
 abbrev pub eliminated : Side → Bool

@@ -1,12 +1,12 @@
 -- The code's own. What the functions of src/side_sums.rt ask, and what their loops over one block come to. Assumes nothing.
-use Rattle.std.specs.Prelude.{◌≡◌, ℕ, ◌+◌, ◌*◌, ◌<◌, ◌≤◌, List, [], ◌∷◌, slice_index_or, slice_set, Float}
+use Rattle.std.specs.Prelude.{◌≡◌, ℕ, ◌+◌, ◌-◌, ◌*◌, ◌<◌, ◌≤◌, List, [], ◌∷◌, slice_index_or, slice_set, Float}
 use Rattle.std.specs.Float.{nan}
 use Rattle.ground.specs.Range.{range}
 use Rattle.ground.specs.Gather.{gather}
 use Rattle.columns.specs.Columns.{Columns, column_count, Keeps}
 use Rattle.columns.specs.Sums.{zero₊, Term, term, sum_from, RowTerm}
 use Rattle.columns.specs.JacobianOps.{gather_terms, sweep_terms}
-use Rattle.blocks.specs.Sides.{block_count, first_of, dof_of, offset_of, side_dof}
+use Rattle.blocks.specs.Sides.{block_count, first_of, dof_of, side_dof}
 use Rattle.blocks.specs.BlockValues.{value_count}
 use Rattle.products.specs.SideSums.{column_at}
 
@@ -19,6 +19,13 @@ local_terms m side v l = sweep_terms m (slice_index_or v l nan) (column_at side 
 abbrev pub local_sum : Float → Columns → List ℕ → List Float → ℕ → Float
 local_sum start m side y l = sum_from start (gather_terms m y (column_at side l))
 
+-- the same of the column of place l, in a block of which the columns begin at `first` and the places at `at`
+abbrev pub placed_terms : Columns → ℕ → ℕ → List Float → ℕ → List RowTerm
+placed_terms m first at v l = sweep_terms m (slice_index_or v l nan) (first + (l - at))
+
+abbrev pub placed_sum : Float → Columns → ℕ → ℕ → List Float → ℕ → Float
+placed_sum start m first at y l = sum_from start (gather_terms m y (first + (l - at)))
+
 -- places lo up to hi of a vector, each with its own value
 abbrev pub written : (ℕ → Float) → ℕ → ℕ → List Float → List Float
 written g lo hi out = range (λ l z. slice_set z l (g l)) lo hi out
@@ -29,11 +36,11 @@ pub record SideFits (m : Columns) (side : List ℕ) (n : ℕ) : Type 0 where
   pub inside : (b : ℕ) → b < block_count side → first_of side b + dof_of side b ≤ column_count m
   pub room : n ≡ side_dof side
 
--- so it is, and block b's entries begin at place `at`
-pub record SideBlockFits (m : Columns) (side : List ℕ) (b at n : ℕ) : Type 0 where
-  pub fit : SideFits m side n
-  pub there : b < block_count side
-  pub starts : at ≡ offset_of side b
+-- the columns keep the rules, and a block's columns and its entries' places are there: the columns begin at `first`, the places at `at`
+pub record PlacesFit (m : Columns) (first dof at n : ℕ) : Type 0 where
+  pub keeps : Keeps m
+  pub columns : first + dof ≤ column_count m
+  pub places : at + dof ≤ n
 
 -- a side's dofs are few
 pub record DofsFit (side : List ℕ) : Type 0 where

@@ -10,3 +10,4 @@ mod side_sums;
 mod spans_sweep;
 mod sweep_check;
 pub mod update;
+mod window;

@@ -1,14 +1,16 @@
 // The reduced operator `S·v = Fᵀ(F·v − E·(EᵀE+λD_e)⁻¹·Eᵀ·F·v) + λD_k·v`, reading only `J`. `d` carries `λ·D_k` for each kept
 // local number, and is empty for an undamped solve; the eliminated side's damping is in the inverses. The plan is done as it
 // stands, wherever it is from.
+#![tactic(auto, using(crate::proofs::OperatorRules::operating))]
+
 ghost use Rattle.std.specs.Prelude.{◌≡◌, length};
 ghost use Rattle.columns.specs.Refusals.{told};
-ghost use Rattle.columns.specs.Columns.{columns_of};
+ghost use Rattle.columns.specs.Lent.{seen};
 ghost use Rattle.plan.specs.SpanWalk.{Chunked};
 ghost use Rattle.products.specs.PlanCheck.{rows_only, Risen};
 ghost use Rattle.products.specs.Operator.{damp_length, schur_operator};
 ghost use Rattle.products.specs.OperatorCalls.{operator_lent, damped_on, DampFits};
-ghost use Rattle.plan.specs.Spans.{spread_of};
+ghost use Rattle.plan.specs.LentSpans.{spread_lent};
 
 use crate::plan_check::check_plan;
 use crate::side::Side;
@@ -17,10 +19,12 @@ use crate::spans_sweep::sweep_plan;
 use crate::sweep_check::check_chunked;
 use blocks::check::mark_map;
 use blocks::eliminated_blocks::count_values;
-use columns::check::column_count;
+use blocks::sides::Sides;
 use columns::jacobian_ops::clear;
-use columns::refusal::{Answer, wrong_length};
+use columns::lent::Columns;
+use columns::refusal::{Refusal, wrong_length};
 use columns::unchecked::Sign;
+use plan::lent::Spans;
 use plan::spans::chunk_count;
 
 // How long the vectors and work buffers are that an operator is lent.
@@ -47,35 +51,27 @@ fn damp_length(n: usize, dof: usize) -> usize
 
 // Refusals 11 and 13: the lengths of all that is lent, and then both plans, kept first.
 fn check_operands(
-    nrows: usize,
-    ptrs: &[u32],
-    rows: &[u32],
+    columns: Columns<'_>,
     chunk_len: usize,
     kept_dof: usize,
     elims_dof: usize,
     count: usize,
     sizes: Sizes,
-    kept_starts: &[u32],
-    kept_lo: &[u32],
-    kept_hi: &[u32],
-    kept_local: &[u32],
-    elims_starts: &[u32],
-    elims_lo: &[u32],
-    elims_hi: &[u32],
-    elims_local: &[u32],
-) -> Answer
-    requires risen { Risen ptrs.now rows.now }
-    requires chunked { Chunked nrows chunk_len }
-    ensures { let kept_lent = spread_of kept_starts.now kept_lo.now kept_hi.now kept_local.now in
-        let elims_lent = spread_of elims_starts.now elims_lo.now elims_hi.now elims_local.now in
+    kept: Spans<'_>,
+    elims: Spans<'_>,
+) -> Result<(), Refusal>
+    requires risen { Risen columns.ptrs.now columns.rows.now }
+    requires chunked { Chunked columns.nrows chunk_len }
+    ensures { let kept_lent = spread_lent kept.entry in
+        let elims_lent = spread_lent elims.entry in
         told result
-        ≡ operator_lent nrows (rows_only rows.now) chunk_len kept_dof elims_dof count
+        ≡ operator_lent columns.entry.nrows (rows_only columns.entry.rows.now) chunk_len kept_dof elims_dof count
         (record { v = sizes.v; inverses = sizes.inverses; d = sizes.d; rows = sizes.rows; t = sizes.t; u = sizes.u; out = sizes.out }) kept_lent
         elims_lent }
 {
-    let chunks = chunk_count(nrows, chunk_len);
-    let kept_spans = kept_lo.len();
-    let elims_spans = elims_lo.len();
+    let chunks = chunk_count(columns.nrows, chunk_len);
+    let kept_count = kept.lo.len();
+    let elims_count = elims.lo.len();
     let lengths = [
         sizes.v,
         kept_dof,
@@ -83,24 +79,24 @@ fn check_operands(
         count,
         damp_length(sizes.d, kept_dof),
         kept_dof,
-        kept_starts.len(),
+        kept.starts.len(),
         chunks + 1,
-        kept_spans,
-        kept_spans,
-        kept_hi.len(),
-        kept_spans,
-        kept_local.len(),
-        kept_spans,
-        elims_starts.len(),
+        kept_count,
+        kept_count,
+        kept.hi.len(),
+        kept_count,
+        kept.local.len(),
+        kept_count,
+        elims.starts.len(),
         chunks + 1,
-        elims_spans,
-        elims_spans,
-        elims_hi.len(),
-        elims_spans,
-        elims_local.len(),
-        elims_spans,
+        elims_count,
+        elims_count,
+        elims.hi.len(),
+        elims_count,
+        elims.local.len(),
+        elims_count,
         sizes.rows,
-        nrows,
+        columns.nrows,
         sizes.t,
         elims_dof,
         sizes.u,
@@ -108,35 +104,15 @@ fn check_operands(
         sizes.out,
         kept_dof,
     ];
-    if let Answer::Refused(r) = wrong_length(&lengths) {
-        return Answer::Refused(r);
-    }
-    let kept_plan = check_plan(
-        Side::Kept,
-        ptrs,
-        rows,
-        kept_dof,
-        chunk_len,
-        chunks,
-        kept_starts,
-        kept_lo,
-        kept_hi,
-        kept_local,
-    );
-    if let Answer::Refused(r) = kept_plan {
-        return Answer::Refused(r);
-    }
+    wrong_length(&lengths)?;
+    check_plan(Side::Kept, columns, kept_dof, chunk_len, chunks, kept)?;
     check_plan(
         Side::Eliminated,
-        ptrs,
-        rows,
+        columns,
         elims_dof,
         chunk_len,
         chunks,
-        elims_starts,
-        elims_lo,
-        elims_hi,
-        elims_local,
+        elims,
     )
 }
 
@@ -145,49 +121,36 @@ fn add_damping(d: &[f64], v: &[f64], out: &mut [f64])
     requires { DampFits (length d.now) (length v.now) (length out.old) }
     ensures { out.new ≡ damped_on d.now v.now out.old }
 {
-    for l in 0..d.len() {
-        out[l] = out[l] + d[l] * v[l];
+    for (l, x) in d.iter().enumerate() {
+        out[l] += *x * v[l];
     }
 }
 
 // `S·v`. The rows y, t and u end as the steps leave them.
 pub fn apply_schur_operator(
-    nrows: usize,
-    ptrs: &[u32],
-    rows: &[u32],
-    values: &[f64],
-    kept: &[u32],
-    elims: &[u32],
+    columns: Columns<'_>,
+    sides: Sides<'_>,
     map: &mut [u32],
     chunk_len: usize,
     v: &[f64],
     inverses: &[f64],
     d: &[f64],
-    kept_starts: &[u32],
-    kept_lo: &[u32],
-    kept_hi: &[u32],
-    kept_local: &[u32],
-    elims_starts: &[u32],
-    elims_lo: &[u32],
-    elims_hi: &[u32],
-    elims_local: &[u32],
+    kept: Spans<'_>,
+    elims: Spans<'_>,
     y: &mut [f64],
     t: &mut [f64],
     u: &mut [f64],
     out: &mut [f64],
-) -> Answer
-    ensures { let m = columns_of nrows ptrs.now rows.now values.now in
-        let kept_lent = spread_of kept_starts.now kept_lo.now kept_hi.now kept_local.now in
-        let elims_lent = spread_of elims_starts.now elims_lo.now elims_hi.now elims_local.now in
+) -> Result<(), Refusal>
+    ensures { let m = seen columns.entry in
+        let kept_lent = spread_lent kept.entry in
+        let elims_lent = spread_lent elims.entry in
         record { told = told result; map = map.new; work = record { rows = y.new; t = t.new; u = u.new; out = out.new } }
-        ≡ schur_operator m kept.now elims.now chunk_len map.old
+        ≡ schur_operator m sides.entry.kept.now sides.entry.elims.now chunk_len map.old
         (record { v = v.now; inverses = inverses.now; d = d.now; kept = kept_lent; elims = elims_lent })
         (record { rows = y.old; t = t.old; u = u.old; out = out.old }) }
 {
-    let checked = check_chunked(nrows, ptrs, rows, values, kept, elims, chunk_len, map);
-    if let Answer::Refused(r) = checked {
-        return Answer::Refused(r);
-    }
+    check_chunked(columns, sides, chunk_len, map)?;
     let sizes = Sizes {
         v: v.len(),
         inverses: inverses.len(),
@@ -198,47 +161,30 @@ pub fn apply_schur_operator(
         out: out.len(),
     };
     let lent = check_operands(
-        nrows,
-        ptrs,
-        rows,
+        columns,
         chunk_len,
-        side_dof(kept),
-        side_dof(elims),
-        count_values(elims),
+        side_dof(sides.kept),
+        side_dof(sides.elims),
+        count_values(sides.elims),
         sizes,
-        kept_starts,
-        kept_lo,
-        kept_hi,
-        kept_local,
-        elims_starts,
-        elims_lo,
-        elims_hi,
-        elims_local,
+        kept,
+        elims,
     );
-    if let Answer::Refused(r) = lent {
-        mark_map(map, column_count(ptrs));
-        return Answer::Refused(r);
+    if let Err(refusal) = lent {
+        mark_map(map, columns.count());
+        return Err(refusal);
     }
     // y = F·v
     clear(y);
-    sweep_plan(Sign::Plus, rows, values, v, kept_lo, kept_hi, kept_local, y);
+    sweep_plan(Sign::Plus, columns, v, kept, y);
     // t = Eᵀ·y
-    gather_side(ptrs, rows, values, elims, y, -0.0, t);
+    gather_side(columns, sides.elims, y, -0.0, t);
     // u = inverses·t
-    inverse_times(elims, inverses, t, u);
+    inverse_times(sides.elims, inverses, t, u);
     // y ← y − E·u
-    sweep_plan(
-        Sign::Minus,
-        rows,
-        values,
-        u,
-        elims_lo,
-        elims_hi,
-        elims_local,
-        y,
-    );
+    sweep_plan(Sign::Minus, columns, u, elims, y);
     // out = Fᵀ·y + d·v
-    gather_side(ptrs, rows, values, kept, y, -0.0, out);
+    gather_side(columns, sides.kept, y, -0.0, out);
     add_damping(d, v, out);
-    Answer::Done
+    Ok(())
 }

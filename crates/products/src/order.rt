@@ -1,13 +1,15 @@
 // Work orders: a list of chunk numbers, each of which names the chunk whose next span is done. A step does one place of such a list on lent
 // rows and progress; a sweep does a whole list. Both do it by `do_step`, so a sweep is its steps, and a sweep tests its whole order before
 // it touches a row.
-ghost use Rattle.std.specs.Prelude.{◌≡◌, ◌+◌, length, slice_index};
+#![tactic(auto, using(crate::proofs::OrderRules::ordering))]
+
+ghost use Rattle.std.specs.Prelude.{◌≡◌, ◌+◌, true, length, slice_index, slice_set};
 ghost use Rattle.ground.specs.First.{some};
 ghost use Rattle.columns.specs.Refusals.{told};
-ghost use Rattle.columns.specs.Columns.{columns_of};
+ghost use Rattle.columns.specs.Lent.{seen};
 ghost use Rattle.products.specs.Orders.{has_next, bad_order, start_rows, step_of, sweep_of};
 ghost use Rattle.products.specs.Side.{eliminated};
-ghost use Rattle.plan.specs.Spans.{spread_of};
+ghost use Rattle.plan.specs.LentSpans.{spread_lent};
 ghost use Rattle.products.specs.OrderWalk.{
   entries_only,
   starts_only,
@@ -27,12 +29,14 @@ use crate::side::{Side, side_sign};
 use crate::spans_sweep::do_span;
 use crate::sweep_check::check_sweep;
 use blocks::check::mark_map;
-use columns::check::column_count;
+use blocks::sides::Sides;
 use columns::jacobian_ops::clear;
-use columns::refusal::{Answer, Refusal};
+use columns::lent::Columns;
+use columns::refusal::Refusal;
 use columns::unchecked::Sign;
 use ground::buckets::fill;
 use ground::wide;
+use plan::lent::Spans;
 
 // Whether chunk c has a span left.
 fn chunk_left(starts: &[u32], progress: &[u32], c: usize) -> bool
@@ -59,12 +63,7 @@ fn some_left(starts: &[u32], progress: &[u32]) -> bool
     requires { StartsFit (length starts.now) (length progress.now) }
     ensures { result ≡ some (left_at starts.now progress.now) 0 (length progress.now) }
 {
-    for c in 0..progress.len() {
-        if chunk_left(starts, progress, c) {
-            return true;
-        }
-    }
-    false
+    (0..progress.len()).any(|c| chunk_left(starts, progress, c))
 }
 
 // The first place of an order that names a chunk which does not exist or has no span left, or the order's length. The progress, at 0, ends
@@ -74,34 +73,34 @@ fn count_places(starts: &[u32], order: &[u32], progress: &mut [u32]) -> usize
     ensures { record { place = result; progress = progress.new }
         ≡ counted_to (length progress.old) (starts_only starts.now) order.now }
 {
-    for i in 0..order.len() {
-        let c = wide(order[i]);
+    for (i, c) in order.iter().enumerate() {
+        let c = wide(*c);
         if !has_next(starts, progress, c) {
             return i;
         }
-        progress[c] = progress[c] + 1;
+        progress[c] += 1;
     }
     order.len()
 }
 
 // Refusal 14 of an order; the progress counts.
-fn try_order(starts: &[u32], order: &[u32], progress: &mut [u32]) -> Answer
+fn try_order(starts: &[u32], order: &[u32], progress: &mut [u32]) -> Result<(), Refusal>
     requires { StartsFit (length starts.now) (length progress.old) }
     ensures { told result ≡ bad_order (length progress.old) (starts_only starts.now) order.now }
 {
     fill(0, progress.len(), progress);
     let i = count_places(starts, order, progress);
     if i < order.len() {
-        return Answer::Refused(Refusal::BadSchedule { place: i });
+        return Err(Refusal::BadSchedule { place: i });
     }
     if some_left(starts, progress) {
-        return Answer::Refused(Refusal::BadSchedule { place: i });
+        return Err(Refusal::BadSchedule { place: i });
     }
-    Answer::Done
+    Ok(())
 }
 
 // Refusal 14 of an order; the progress ends at 0.
-fn check_order(starts: &[u32], order: &[u32], progress: &mut [u32]) -> Answer
+fn check_order(starts: &[u32], order: &[u32], progress: &mut [u32]) -> Result<(), Refusal>
     requires { StartsFit (length starts.now) (length progress.old) }
     ensures { record { told = told result; progress = progress.new }
         ≡ tested_order (length progress.old) (starts_only starts.now) order.now }
@@ -111,68 +110,69 @@ fn check_order(starts: &[u32], order: &[u32], progress: &mut [u32]) -> Answer
     t
 }
 
-// A step's work: the named chunk's span at its progress, and one more there.
+// The place of the chunk's next span, which then counts as done.
+#[tactic(auto, using(crate::proofs::OrderRules::stepping))]
+fn take_next(starts: &[u32], progress: &mut [u32], chunk: usize) -> usize
+    requires started { StartsFit (length starts.now) (length progress.old) }
+    requires next { has_next (length progress.old) (starts_only starts.now) chunk (slice_index progress.old chunk) ≡ true }
+    ensures place { result ≡ slice_index starts.now chunk + slice_index progress.old chunk }
+    ensures counted { progress.new ≡ slice_set progress.old chunk (slice_index progress.old chunk + 1) }
+{
+    let done = progress[chunk];
+    progress[chunk] = done + 1;
+    wide(starts[chunk]) + wide(done)
+}
+
+// A step's work: the named chunk's next span, swept.
+#[tactic(auto, using(crate::proofs::OrderRules::stepping))]
 fn do_step(
     sign: Sign,
-    rows: &[u32],
-    values: &[f64],
+    columns: Columns<'_>,
     v: &[f64],
-    starts: &[u32],
-    lo: &[u32],
-    hi: &[u32],
-    local: &[u32],
+    spans: Spans<'_>,
     y: &mut [f64],
     progress: &mut [u32],
     chunk: usize,
 )
-    requires { StepFits rows.now (length values.now) (length v.now) (length y.old)
-        (spread_of starts.now lo.now hi.now local.now) progress.old chunk }
-    ensures { let lent = spread_of starts.now lo.now hi.now local.now in
+    requires { StepFits columns.rows.now (length columns.values.now) (length v.now) (length y.old)
+        (spread_lent spans) progress.old chunk }
+    ensures { let lent = spread_lent spans.entry in
         record { rows = y.new; progress = progress.new }
-        ≡ stepped sign (entries_only rows.now values.now) lent v.now chunk
+        ≡ stepped sign (entries_only columns.entry.rows.now columns.entry.values.now) lent v.now chunk
         (record { rows = y.old; progress = progress.old }) }
 {
-    let at = wide(starts[chunk]) + wide(progress[chunk]);
-    do_span(sign, rows, values, v, lo, hi, local, at, y);
-    progress[chunk] = progress[chunk] + 1;
+    let at = take_next(spans.starts, progress, chunk);
+    do_span(
+        sign,
+        columns,
+        v,
+        spans.lo[at],
+        spans.hi[at],
+        spans.local[at],
+        y,
+    );
 }
 
 // The work of a whole order that has been tested, from progress 0: its steps, in its order.
+#[tactic(auto, using(crate::proofs::OrderRules::stepping))]
 fn run_order(
     sign: Sign,
-    rows: &[u32],
-    values: &[f64],
+    columns: Columns<'_>,
     v: &[f64],
-    starts: &[u32],
-    lo: &[u32],
-    hi: &[u32],
-    local: &[u32],
+    spans: Spans<'_>,
     y: &mut [f64],
     progress: &mut [u32],
     order: &[u32],
 )
-    requires { RunFits rows.now (length values.now) (length v.now) (length y.old)
-        (spread_of starts.now lo.now hi.now local.now) progress.old order.now }
-    ensures { let lent = spread_of starts.now lo.now hi.now local.now in
+    requires { RunFits columns.rows.now (length columns.values.now) (length v.now) (length y.old)
+        (spread_lent spans) progress.old order.now }
+    ensures { let lent = spread_lent spans.entry in
         record { rows = y.new; progress = progress.new }
-        ≡ ran_order sign (entries_only rows.now values.now) lent v.now order.now
+        ≡ ran_order sign (entries_only columns.entry.rows.now columns.entry.values.now) lent v.now order.now
         (record { rows = y.old; progress = progress.old }) }
 {
-    let n = order.len();
-    for i in 0..n {
-        do_step(
-            sign,
-            rows,
-            values,
-            v,
-            starts,
-            lo,
-            hi,
-            local,
-            y,
-            progress,
-            wide(order[i]),
-        );
+    for chunk in order {
+        do_step(sign, columns, v, spans, y, progress, wide(*chunk));
     }
 }
 
@@ -186,136 +186,80 @@ fn start_rows(side: Side, y: &mut [f64])
 }
 
 // One place of a work order: the named chunk's span at its progress, added to the rows on the kept side, subtracted on the eliminated one.
+#[tactic(auto, using(crate::proofs::StepRules::calling))]
 pub fn step(
     side: Side,
-    nrows: usize,
-    ptrs: &[u32],
-    rows: &[u32],
-    values: &[f64],
-    kept: &[u32],
-    elims: &[u32],
+    columns: Columns<'_>,
+    sides: Sides<'_>,
     map: &mut [u32],
     chunk_len: usize,
     v: &[f64],
-    starts: &[u32],
-    lo: &[u32],
-    hi: &[u32],
-    local: &[u32],
+    spans: Spans<'_>,
     y: &mut [f64],
     progress: &mut [u32],
     chunk: usize,
-) -> Answer
-    ensures { let m = columns_of nrows ptrs.now rows.now values.now in
-        let lent = spread_of starts.now lo.now hi.now local.now in
+) -> Result<(), Refusal>
+    ensures { let m = seen columns.entry in
+        let lent = spread_lent spans.entry in
         record { told = told result; map = map.new; rows = y.new; progress = progress.new }
-        ≡ step_of (eliminated side) m kept.now elims.now chunk_len map.old v.now lent y.old
+        ≡ step_of (eliminated side) m sides.entry.kept.now sides.entry.elims.now chunk_len map.old v.now lent y.old
         progress.old chunk }
 {
-    let checked = check_sweep(
+    check_sweep(
         side,
-        nrows,
-        ptrs,
-        rows,
-        values,
-        kept,
-        elims,
+        columns,
+        sides,
         map,
         chunk_len,
         v.len(),
-        starts,
-        lo,
-        hi,
-        local,
+        spans,
         y.len(),
         progress.len(),
-    );
-    if let Answer::Refused(r) = checked {
-        return Answer::Refused(r);
+    )?;
+    if !has_next(spans.starts, progress, chunk) {
+        mark_map(map, columns.count());
+        return Err(Refusal::BadSchedule { place: 0 });
     }
-    if !has_next(starts, progress, chunk) {
-        mark_map(map, column_count(ptrs));
-        return Answer::Refused(Refusal::BadSchedule { place: 0 });
-    }
-    do_step(
-        side_sign(side),
-        rows,
-        values,
-        v,
-        starts,
-        lo,
-        hi,
-        local,
-        y,
-        progress,
-        chunk,
-    );
-    Answer::Done
+    do_step(side_sign(side), columns, v, spans, y, progress, chunk);
+    Ok(())
 }
 
 // A whole work order: rows to +0.0 on the kept side, and then each place's step.
+#[tactic(auto, using(crate::proofs::StepRules::calling))]
 pub fn sweep(
     side: Side,
-    nrows: usize,
-    ptrs: &[u32],
-    rows: &[u32],
-    values: &[f64],
-    kept: &[u32],
-    elims: &[u32],
+    columns: Columns<'_>,
+    sides: Sides<'_>,
     map: &mut [u32],
     chunk_len: usize,
     v: &[f64],
-    starts: &[u32],
-    lo: &[u32],
-    hi: &[u32],
-    local: &[u32],
+    spans: Spans<'_>,
     y: &mut [f64],
     progress: &mut [u32],
     order: &[u32],
-) -> Answer
-    ensures { let m = columns_of nrows ptrs.now rows.now values.now in
-        let lent = spread_of starts.now lo.now hi.now local.now in
+) -> Result<(), Refusal>
+    ensures { let m = seen columns.entry in
+        let lent = spread_lent spans.entry in
         record { told = told result; map = map.new; rows = y.new; progress = progress.new }
-        ≡ sweep_of (eliminated side) m kept.now elims.now chunk_len map.old v.now lent y.old
+        ≡ sweep_of (eliminated side) m sides.entry.kept.now sides.entry.elims.now chunk_len map.old v.now lent y.old
         progress.old order.now }
 {
-    let checked = check_sweep(
+    check_sweep(
         side,
-        nrows,
-        ptrs,
-        rows,
-        values,
-        kept,
-        elims,
+        columns,
+        sides,
         map,
         chunk_len,
         v.len(),
-        starts,
-        lo,
-        hi,
-        local,
+        spans,
         y.len(),
         progress.len(),
-    );
-    if let Answer::Refused(r) = checked {
-        return Answer::Refused(r);
-    }
-    if let Answer::Refused(r) = check_order(starts, order, progress) {
-        mark_map(map, column_count(ptrs));
-        return Answer::Refused(r);
+    )?;
+    if let Err(refusal) = check_order(spans.starts, order, progress) {
+        mark_map(map, columns.count());
+        return Err(refusal);
     }
     start_rows(side, y);
-    run_order(
-        side_sign(side),
-        rows,
-        values,
-        v,
-        starts,
-        lo,
-        hi,
-        local,
-        y,
-        progress,
-        order,
-    );
-    Answer::Done
+    run_order(side_sign(side), columns, v, spans, y, progress, order);
+    Ok(())
 }

@@ -1,159 +1,72 @@
-// Kinds 9 to 12: the calls that take columns and both sides. After the columns come the kept blocks, the eliminated ones, the map before the
-// call, the answer (0, or a refusal's number and its value) and the map after it.
-use crate::damping::damping;
-use crate::kinds::{COUNTS, write_count};
-use crate::list::{
-    f64_room, is, list, number, places, same, same_u32, take_f64, take_u32, u32_room, well_formed,
-};
+// The calls that take columns and both sides: the map that is lent, the answer and the map after the call, and then what is the call's own.
+use crate::lists::{floats, room, same, same_u32};
 use blocks::check::check_blocks;
+use blocks::damping::Damping;
 use blocks::eliminated_blocks::{damp, gather_from_jacobian};
-use columns::refusal::{Answer, Refusal};
-use std::io;
+use blocks::sides::Sides;
+use columns::lent::Columns;
+use columns::refusal::Refusal;
+use std::alloc::{AllocError, Global};
 
-// Whether a refusal is the one of list 7, which has one value.
-fn same_refusal(r: Refusal, case: &[u64]) -> bool {
-    let values = r.values();
-    is(case, 7, 0, r.number() as usize) && values.count == 1 && is(case, 7, 1, values.first)
+// What a case expects: the answer, 0 or a refusal's number and its value, and the map after the call.
+#[derive(Clone, Copy)]
+pub(crate) struct Expected<'a> {
+    pub answer: &'a [u64],
+    pub map: &'a [u64],
 }
 
-// Whether a call answered list 7 and left list 8 in the map.
-fn same_answer(answer: Answer, case: &[u64], map: &[u32]) -> bool {
-    let told = match answer {
-        Answer::Done => is(case, 7, 0, 0),
-        Answer::Refused(r) => same_refusal(r, case),
-    };
-    told && same_u32(map, case, 8)
-}
-
-// Kinds 9 and 10: no other lists.
-fn same_check(
-    case: &[u64],
-    ptrs: &[u32],
-    rows: &[u32],
-    values: &[f64],
-    kept: &[u32],
-    elims: &[u32],
-    map: &mut [u32],
-) -> bool {
-    let answer = check_blocks(number(case, 0, 0), ptrs, rows, values, kept, elims, map);
-    same_answer(answer, case, map)
-}
-
-// Kind 11: list 9 has the block values.
-fn same_gather(
-    case: &[u64],
-    ptrs: &[u32],
-    rows: &[u32],
-    values: &[f64],
-    kept: &[u32],
-    elims: &[u32],
-    map: &mut [u32],
-) -> bool {
-    let mut room = f64_room();
-    let n = places(case, 9, &room);
-    let out = &mut room[..n];
-    let answer = gather_from_jacobian(
-        number(case, 0, 0),
-        ptrs,
-        rows,
-        values,
-        kept,
-        elims,
-        map,
-        out,
-    );
-    same_answer(answer, case, map) && same(out, case, 9)
-}
-
-// Kind 12: list 9 has the block values after the call, list 10 those before, list 11 lambda and the limits.
-fn same_damp(
-    case: &[u64],
-    ptrs: &[u32],
-    rows: &[u32],
-    values: &[f64],
-    kept: &[u32],
-    elims: &[u32],
-    map: &mut [u32],
-) -> bool {
-    let mut room = f64_room();
-    let n = take_f64(case, 10, &mut room);
-    let out = &mut room[..n];
-    let answer = damp(
-        number(case, 0, 0),
-        ptrs,
-        rows,
-        values,
-        kept,
-        elims,
-        map,
-        damping(case, 11),
-        out,
-    );
-    same_answer(answer, case, map) && same(out, case, 9)
-}
-
-// Takes the map, and makes the call.
-fn take_map(
-    kind: u64,
-    case: &[u64],
-    ptrs: &[u32],
-    rows: &[u32],
-    values: &[f64],
-    kept: &[u32],
-    elims: &[u32],
-) -> bool {
-    let mut room = u32_room();
-    let n = take_u32(case, 6, &mut room);
-    let map = &mut room[..n];
-    match kind {
-        11 => same_gather(case, ptrs, rows, values, kept, elims, map),
-        12 => same_damp(case, ptrs, rows, values, kept, elims, map),
-        _ => same_check(case, ptrs, rows, values, kept, elims, map),
+impl Expected<'_> {
+    // Whether a call answered so, and left this map.
+    fn is(self, answer: Result<(), Refusal>, map: &[u32]) -> bool {
+        let told = match answer {
+            Ok(()) => self.answer.first() == Some(&0),
+            Err(r) => {
+                let values = r.values();
+                values.count == 1
+                    && self.answer == [u64::from(r.number()), values.first as u64].as_slice()
+            }
+        };
+        told && same_u32(map, self.map)
     }
 }
 
-// Takes the eliminated blocks, and goes on.
-fn take_elims(
-    kind: u64,
-    case: &[u64],
-    ptrs: &[u32],
-    rows: &[u32],
-    values: &[f64],
-    kept: &[u32],
+// `check_blocks`, done or refused.
+pub(crate) fn same_check(
+    columns: Columns,
+    sides: Sides,
+    map: &mut [u32],
+    expected: Expected,
 ) -> bool {
-    let mut room = u32_room();
-    let n = take_u32(case, 5, &mut room);
-    take_map(kind, case, ptrs, rows, values, kept, &room[..n])
+    let answer = check_blocks(columns, sides, map);
+    expected.is(answer, map)
 }
 
-// Takes the kept blocks, and goes on.
-pub(crate) fn take_kept(
-    kind: u64,
-    case: &[u64],
-    ptrs: &[u32],
-    rows: &[u32],
-    values: &[f64],
-) -> bool {
-    let mut room = u32_room();
-    let n = take_u32(case, 4, &mut room);
-    take_elims(kind, case, ptrs, rows, values, &room[..n])
+// The block values.
+pub(crate) fn same_gather(
+    alloc: Global,
+    columns: Columns,
+    sides: Sides,
+    map: &mut [u32],
+    expected: Expected,
+    out: &[u64],
+) -> Result<bool, AllocError> {
+    let mut got = room(alloc, out)?;
+    let answer = gather_from_jacobian(columns, sides, map, &mut got);
+    Ok(expected.is(answer, map) && same(&got, out))
 }
 
-// Whether a case has the lists of its kind, past the first.
-pub(crate) fn has_lists(kind: u64, case: &[u64]) -> bool {
-    match kind {
-        9 => well_formed(case, 9) && list(case, 7).len() == 1,
-        10 => well_formed(case, 9) && list(case, 7).len() == 2,
-        11 => well_formed(case, 10) && list(case, 7).len() == 1,
-        12 => well_formed(case, 12) && list(case, 7).len() == 1 && list(case, 11).len() == 3,
-        _ => false,
-    }
-}
-
-// Writes how many cases of these kinds were compared.
-pub(crate) fn write_counts(rt: &impl Print, counts: &[u64; COUNTS]) -> io::Result<()> {
-    write_count(rt, ", check_blocks ", counts[9])?;
-    write_count(rt, ", its refusals ", counts[10])?;
-    write_count(rt, ", gather_from_jacobian ", counts[11])?;
-    write_count(rt, ", damp ", counts[12])
+// The block values after the call and before, and the damping.
+pub(crate) fn same_damp(
+    alloc: Global,
+    columns: Columns,
+    sides: Sides,
+    map: &mut [u32],
+    expected: Expected,
+    after: &[u64],
+    before: &[u64],
+    damping: Damping,
+) -> Result<bool, AllocError> {
+    let mut got = floats(alloc, before)?;
+    let answer = damp(columns, sides, map, damping, &mut got);
+    Ok(expected.is(answer, map) && same(&got, after))
 }

@@ -1,59 +1,195 @@
-// The kinds of cases, by their numbers. A layer brings its own modules, their arms and a line of `write_counts` for each.
-use crate::{block_values, damping, jacobian_ops, partition, with_columns};
-use std::io;
+// The kinds of cases.
+use crate::block_values::{Expected, same_check, same_damp, same_gather};
+use crate::damping::{damping_of, same_identity, same_terms};
+use crate::jacobian_ops::{same_column_dot, same_diag_jt_j, same_jt_j_vec_product, same_jt_vec};
+use crate::lists::{all_lists, floats, narrow};
+use crate::partition::{
+    same_block_places, same_dofs, same_eliminated_offsets, same_kept_locals, same_kept_offsets,
+    same_places_within, same_slots,
+};
+use blocks::sides::Sides;
+use columns::lent::Columns;
+use std::alloc::{AllocError, Global};
 
-// Room for a count at each kind's number, so the numbers are below it.
-pub(crate) const COUNTS: usize = 32;
+#[derive(Clone, Copy, PartialEq, Eq)]
+pub(crate) enum Kind {
+    ColumnDot,
+    JtVec,
+    DiagJtJ,
+    JtJVecProduct,
+    Lookups,
+    BlockPlace,
+    KeptOffset,
+    EliminatedOffset,
+    CheckBlocks,
+    CheckRefused,
+    Gather,
+    Damp,
+    DiagonalTerm,
+    Identity,
+}
 
-// What became of a case.
+// That a number is no kind's.
 #[derive(Clone, Copy)]
-pub(crate) enum Outcome {
-    // its answers were compared: they are the original's, or they are not
-    Same,
-    Differs,
-    // it has no kind that is known, or not the lists of its kind, or one that is too long
-    Malformed,
-}
+pub(crate) struct UnknownKind;
 
-// Whether a case has a kind that is known, and the lists of its kind.
-fn has_lists(kind: u64, case: &[u64]) -> bool {
-    match kind {
-        1..=4 | 9..=12 => with_columns::has_lists(kind, case),
-        5..=8 => partition::has_lists(kind, case),
-        13..=14 => damping::has_lists(kind, case),
-        _ => false,
+impl TryFrom<u64> for Kind {
+    type Error = UnknownKind;
+
+    fn try_from(number: u64) -> Result<Kind, UnknownKind> {
+        match number {
+            1 => Ok(Kind::ColumnDot),
+            2 => Ok(Kind::JtVec),
+            3 => Ok(Kind::DiagJtJ),
+            4 => Ok(Kind::JtJVecProduct),
+            5 => Ok(Kind::Lookups),
+            6 => Ok(Kind::BlockPlace),
+            7 => Ok(Kind::KeptOffset),
+            8 => Ok(Kind::EliminatedOffset),
+            9 => Ok(Kind::CheckBlocks),
+            10 => Ok(Kind::CheckRefused),
+            11 => Ok(Kind::Gather),
+            12 => Ok(Kind::Damp),
+            13 => Ok(Kind::DiagonalTerm),
+            14 => Ok(Kind::Identity),
+            _ => Err(UnknownKind),
+        }
     }
 }
 
-// Whether our functions give what is expected.
-fn same_calls(kind: u64, case: &[u64]) -> bool {
-    match kind {
-        5..=8 => partition::same_calls(kind, case),
-        13..=14 => damping::same_calls(kind, case),
-        _ => with_columns::same_call(kind, case),
-    }
+// The kinds in the order of a list's line, and what stands there before the count of each.
+pub(crate) const HEADS: [(Kind, &str); 14] = [
+    (Kind::ColumnDot, "column_dot"),
+    (Kind::JtVec, ", jt_vec"),
+    (Kind::DiagJtJ, ", diag_jt_j"),
+    (Kind::JtJVecProduct, ", jt_j_vec_product"),
+    (Kind::Lookups, ", lookups"),
+    (Kind::BlockPlace, ", block_place"),
+    (Kind::KeptOffset, ", kept_offset"),
+    (Kind::EliminatedOffset, ", eliminated_offset"),
+    (Kind::CheckBlocks, ", check_blocks"),
+    (Kind::CheckRefused, ", its refusals"),
+    (Kind::Gather, ", gather_from_jacobian"),
+    (Kind::Damp, ", damp"),
+    (Kind::DiagonalTerm, ", diagonal_term"),
+    (Kind::Identity, ", identity"),
+];
+
+// Whether each list has n numbers.
+fn level(n: usize, lists: &[&[u64]]) -> bool {
+    lists.iter().all(|list| list.len() == n)
 }
 
-// Replays a case by its kind.
-pub(crate) fn replay(kind: u64, case: &[u64]) -> Outcome {
-    if !has_lists(kind, case) {
-        return Outcome::Malformed;
-    }
-    if same_calls(kind, case) {
-        return Outcome::Same;
-    }
-    Outcome::Differs
+// Replays a case over columns and both sides; `rest` has its lists past the columns.
+fn replay_sides(
+    alloc: Global,
+    kind: Kind,
+    columns: Columns,
+    rest: &[&[u64]],
+) -> Result<Option<bool>, AllocError> {
+    let &[kept, elims, before, answer, map, ref rest @ ..] = rest else {
+        return Ok(None);
+    };
+    let expected = Expected { answer, map };
+    let kept = narrow(alloc, kept)?;
+    let elims = narrow(alloc, elims)?;
+    let mut map = narrow(alloc, before)?;
+    let sides = Sides {
+        kept: &kept,
+        elims: &elims,
+    };
+    let same = match (kind, answer, rest) {
+        (Kind::CheckBlocks, [_], []) | (Kind::CheckRefused, [_, _], []) => {
+            same_check(columns, sides, &mut map, expected)
+        }
+        (Kind::Gather, [_], &[out]) => same_gather(alloc, columns, sides, &mut map, expected, out)?,
+        (Kind::Damp, [_], &[after, lent, &[lambda, min, max]]) => {
+            let damping = damping_of(lambda, min, max);
+            same_damp(
+                alloc, columns, sides, &mut map, expected, after, lent, damping,
+            )?
+        }
+        _ => return Ok(None),
+    };
+    Ok(Some(same))
 }
 
-// Writes a name and a count.
-pub(crate) fn write_count(rt: &impl Print, name: &str, count: u64) -> io::Result<()> {
-    print!(rt; "{name}{count}")
+// Replays a case over columns, which are its first lists.
+fn replay_columns(alloc: Global, kind: Kind, lists: &[&[u64]]) -> Result<Option<bool>, AllocError> {
+    let &[&[nrows], ptrs, rows, values, ref rest @ ..] = lists else {
+        return Ok(None);
+    };
+    let ptrs = narrow(alloc, ptrs)?;
+    let rows = narrow(alloc, rows)?;
+    let values = floats(alloc, values)?;
+    let columns = Columns {
+        nrows: nrows as usize,
+        ptrs: &ptrs,
+        rows: &rows,
+        values: &values,
+    };
+    let same = match (kind, rest) {
+        (Kind::ColumnDot, &[&[a, b], dot]) => same_column_dot(columns, a, b, dot),
+        (Kind::JtVec, &[v, out]) => same_jt_vec(alloc, columns, v, out)?,
+        (Kind::DiagJtJ, &[out]) => same_diag_jt_j(alloc, columns, out)?,
+        (Kind::JtJVecProduct, &[v, jv, out]) => same_jt_j_vec_product(alloc, columns, v, jv, out)?,
+        (_, rest) => return replay_sides(alloc, kind, columns, rest),
+    };
+    Ok(Some(same))
 }
 
-// Writes how many cases of each kind were compared.
-pub(crate) fn write_counts(rt: &impl Print, counts: &[u64; COUNTS]) -> io::Result<()> {
-    jacobian_ops::write_counts(rt, counts)?;
-    partition::write_counts(rt, counts)?;
-    block_values::write_counts(rt, counts)?;
-    damping::write_counts(rt, counts)
+// Whether our functions give what a case's lists expect; nothing where they are not those of its kind.
+pub(crate) fn replay(alloc: Global, kind: Kind, lists: &[u64]) -> Result<Option<bool>, AllocError> {
+    let lists = all_lists(alloc, lists)?;
+    let same = match (kind, lists.as_slice()) {
+        (
+            Kind::Lookups,
+            &[
+                kept,
+                elims,
+                kinds,
+                locals,
+                offsets,
+                kept_locals,
+                blocks,
+                within,
+            ],
+        ) => {
+            if !level(kinds.len(), &[locals, offsets, kept_locals, blocks, within]) {
+                return Ok(None);
+            }
+            let kept = narrow(alloc, kept)?;
+            let elims = narrow(alloc, elims)?;
+            let sides = Sides {
+                kept: &kept,
+                elims: &elims,
+            };
+            same_slots(sides, kinds, locals, offsets)
+                && same_kept_locals(&kept, kept_locals)
+                && same_places_within(&elims, blocks, within)
+        }
+        (Kind::BlockPlace, &[_, elims, dofs, starts, ends, &[nvalues]]) => {
+            if !level(dofs.len(), &[starts, ends]) {
+                return Ok(None);
+            }
+            let elims = narrow(alloc, elims)?;
+            same_block_places(nvalues, &elims, starts, ends) && same_dofs(&elims, dofs)
+        }
+        (Kind::KeptOffset, &[kept, _, offsets]) => same_kept_offsets(
+            &narrow(alloc, kept)?,
+            offsets,
+        ),
+        (Kind::EliminatedOffset, &[_, elims, firsts, &[kept_dof]]) => {
+            same_eliminated_offsets(&narrow(alloc, elims)?, firsts, kept_dof)
+        }
+        (Kind::DiagonalTerm, &[&[lambda, min, max], values, terms]) => {
+            if values.len() != terms.len() {
+                return Ok(None);
+            }
+            same_terms(damping_of(lambda, min, max), values, terms)
+        }
+        (Kind::Identity, &[&[lambda], damping]) => same_identity(lambda, damping),
+        (_, lists) => return replay_columns(alloc, kind, lists),
+    };
+    Ok(Some(same))
 }

@@ -1,138 +1,78 @@
 // Replaying a whole list, and what is counted of it.
-ghost use Rattle.std.specs.Prelude.{◌+◌, ◌≤◌, length};
+use crate::kinds::{HEADS, Kind, replay};
+use crate::lists::{Case, Cases};
+use std::alloc::{AllocError, Global};
+use std::fmt;
 
-use crate::kinds::{COUNTS, Outcome, replay, write_count, write_counts};
-use std::io;
-use std::num::wrapping_add_u64;
-
-// The size of the case at `at`; 0 where no whole case stands there.
-fn size_at(words: &[u64], at: usize) -> usize
-    requires { at ≤ length words.now }
-    ensures { at + result ≤ length words.now }
-{
-    let room = words.len() - at;
-    if room < 2 {
-        return 0;
-    }
-    let size = words[at + 1];
-    if size < 2 {
-        return 0;
-    }
-    if size > room as u64 {
-        return 0;
-    }
-    size as usize
-}
-
-// The most differing cases whose numbers are kept and written.
+// The most differing cases whose numbers are written.
 const SHOWN: usize = 20;
 
-// What is counted of a list: its cases; those that were compared, in all and by kind; those that differ, and the first of their numbers,
-// which count from 0. No list has so many cases that a count could wrap.
-#[derive(Clone, Copy)]
+// replay_products has a tally like it, of kinds of its own: shared, it would be public in a library, with promises and edits that are longer.
+//
+// What is counted of a list: its cases; the kinds of those that were compared; and the numbers, from 0, of those that differ. No list has so many
+// cases that a count could wrap.
+#[derive(Drop)]
 pub(crate) struct Tally {
-    pub cases: u64,
-    pub compared: u64,
-    pub by_kind: [u64; COUNTS],
-    pub differ: u64,
-    pub shown: [u64; SHOWN],
+    cases: u64,
+    compared: Vec<Kind>,
+    differing: Vec<u64>,
 }
 
 impl Tally {
-    // Nothing yet.
-    fn new() -> Tally {
-        Tally {
-            cases: 0,
-            compared: 0,
-            by_kind: [0; COUNTS],
-            differ: 0,
-            shown: [0; SHOWN],
+    // One more case: its kind and whether it is the original's, where it was compared.
+    fn add(&mut self, compared: Option<(Kind, bool)>) -> Result<(), AllocError> {
+        if let Some((kind, _)) = compared {
+            self.compared.push(kind)?;
         }
-    }
-
-    // One more was compared.
-    fn compares(mut self, kind: u64) -> Tally {
-        if kind < COUNTS as u64 {
-            let k = kind as usize;
-            self.by_kind[k] = wrapping_add_u64(self.by_kind[k], 1);
+        if !compared.is_some_and(|(_, same)| same) {
+            self.differing.push(self.cases)?;
         }
-        self.compared = wrapping_add_u64(self.compared, 1);
-        self
-    }
-
-    // One more differs: what stands past the cases so far.
-    fn differs(mut self) -> Tally {
-        let n = self.differ;
-        if n < SHOWN as u64 {
-            let k = n as usize;
-            self.shown[k] = self.cases;
-        }
-        self.differ = wrapping_add_u64(n, 1);
-        self
-    }
-
-    // One more case.
-    fn with(self, kind: u64, outcome: Outcome) -> Tally {
-        let mut tally = match outcome {
-            Outcome::Same => self.compares(kind),
-            Outcome::Differs => self.compares(kind).differs(),
-            Outcome::Malformed => self.differs(),
-        };
-        tally.cases = wrapping_add_u64(tally.cases, 1);
-        tally
-    }
-
-    // Writes the number of the differing case k, where there is one and it was kept.
-    fn write_case(self, rt: &impl Print, k: usize) -> io::Result<()> {
-        if k as u64 >= self.differ {
-            return Ok(());
-        }
-        if k >= SHOWN {
-            return Ok(());
-        }
-        if k == 0 {
-            write_count(rt, ": case ", self.shown[k])
-        } else {
-            write_count(rt, ", case ", self.shown[k])
-        }
-    }
-
-    // Writes the numbers of all differing cases that were kept.
-    fn write_cases(self, rt: &impl Print) -> io::Result<()> {
-        for k in 0..SHOWN {
-            self.write_case(rt, k)?;
-        }
+        self.cases = self.cases.wrapping_add(1);
         Ok(())
-    }
-
-    // Writes a list's line, which `head` begins.
-    pub(crate) fn write(self, rt: &impl Print, head: &str) -> io::Result<()> {
-        let by_kind = self.by_kind;
-        write_count(rt, head, self.compared)?;
-        print!(rt; " compared (")?;
-        write_counts(rt, &by_kind)?;
-        write_count(rt, "), ", self.differ)?;
-        print!(rt; " differ")?;
-        self.write_cases(rt)?;
-        println!(rt)
     }
 }
 
-// Replays every case of a list. What is left past the last whole case, `more` of the file among it, counts as one that differs.
-pub(crate) fn replay_list(words: &[u64], more: bool) -> Tally {
-    let mut tally = Tally::new();
-    let mut at: usize = 0;
-    while at < words.len() {
-        let size = size_at(words, at);
-        if size == 0 {
-            return tally.differs();
+// A list's line, past its name.
+impl fmt::Display for Tally {
+    fn fmt<W: fmt::Write>(&self, f: &mut fmt::Formatter<W>) -> fmt::Result {
+        let compared = self.compared.len();
+        write!(f, "{compared} compared (")?;
+        for (kind, head) in HEADS {
+            let count = self.compared.iter().filter(|k| **k == kind).count();
+            write!(f, "{head} {count}")?;
         }
-        let kind = words[at];
-        tally = tally.with(kind, replay(kind, &words[at..at + size]));
-        at += size;
+        let differ = self.differing.len();
+        write!(f, "), {differ} differ")?;
+        for (k, number) in self.differing.iter().take(SHOWN).enumerate() {
+            let head = if k == 0 { ':' } else { ',' };
+            write!(f, "{head} case {number}")?;
+        }
+        Ok(())
     }
-    if more {
-        return tally.differs();
+}
+
+// Replays a case; nothing where it has no kind that is known, or not the lists of its kind.
+fn replay_case(alloc: Global, case: Case) -> Result<Option<(Kind, bool)>, AllocError> {
+    let Ok(kind) = Kind::try_from(case.kind) else {
+        return Ok(None);
+    };
+    let same = replay(alloc, kind, case.lists)?;
+    Ok(same.map(|same| (kind, same)))
+}
+
+// Replays every case of a list. What is left past the last whole case, `more` of the file among it, counts as one that differs.
+pub(crate) fn replay_list(alloc: Global, words: &[u64], more: bool) -> Result<Tally, AllocError> {
+    let mut tally = Tally {
+        cases: 0,
+        compared: Vec::new(alloc),
+        differing: Vec::new(alloc),
+    };
+    let mut cases = Cases(words);
+    for case in &mut cases {
+        tally.add(replay_case(alloc, case)?)?;
     }
-    tally
+    if more || !cases.0.is_empty() {
+        tally.add(None)?;
+    }
+    Ok(tally)
 }

@@ -1,10 +1,10 @@
-// One case: `plan` is called as the original was, and its answer and all 17 buffers are compared. The lists of a case are: 0 the row count and the
-// chunk length, 1 the pointers, 2 the row numbers, 3 the kept and 4 the eliminated blocks, 5 how many places are lent, 6 the answer, and from 7
-// on what each buffer begins with after the call.
-ghost use Rattle.std.specs.Prelude.{◌<◌, ◌≤◌};
-
-use crate::list::{least, list, number, well_formed};
-use plan::structure::{Planned, plan};
+// One case: `plan` is called as the original was, and its answer and all 17 buffers are compared.
+use crate::lists::{Lists, all_lists};
+use blocks::sides::Sides;
+use columns::lent::Columns;
+use columns::refusal::Refusal;
+use plan::structure::{SpanCounts, plan};
+use std::alloc::{AllocError, Global};
 
 // The places of a buffer, of which a part is lent.
 const MOST: usize = 512;
@@ -12,59 +12,56 @@ const MOST: usize = 512;
 // What every place holds before the call: no number of an answer.
 const UNUSED: u32 = 3_000_000_000;
 
-// How many places are lent: number k of list 5, where k is 0 for buffers that need as many as there are columns, 1 rows, 2 eliminated blocks and
-// one more, 3 entries, 4 kept blocks and one more, 5 chunks and one more.
-fn lent(case: &[u32], k: usize) -> usize
-    ensures { result ≤ 512 }
-{
-    least(number(case, 5, k), MOST)
-}
-
-// Whether list 6 is these numbers.
-fn is_answer(case: &[u32], code: usize, first: usize, second: usize) -> bool {
-    number(case, 6, 0) == code && number(case, 6, 1) == first && number(case, 6, 2) == second
-}
-
-// Whether an answer is list 6: 0 and the span counts, or a refusal's number and its two values.
-fn same_answer(answer: Planned, case: &[u32]) -> bool {
+// An answer as the lists have it: 0 and the span counts, or a refusal's number and its two values; none for a refusal with fewer.
+fn told(answer: Result<SpanCounts, Refusal>) -> Option<[usize; 3]> {
     match answer {
-        Planned::Done {
-            kept_spans,
-            eliminated_spans,
-        } => is_answer(case, 0, kept_spans, eliminated_spans),
-        Planned::Refused(r) => {
+        Ok(spans) => Some([0, spans.kept, spans.eliminated]),
+        Err(r) => {
             let values = r.values();
-            values.count == 2 && is_answer(case, r.number() as usize, values.first, values.second)
+            (values.count == 2).then_some([r.number() as usize, values.first, values.second])
         }
     }
 }
 
-// Whether a buffer holds at place i what is expected, which past the list is what it held before.
-fn same_at(got: &[u32; MOST], expected: &[u32], i: usize) -> bool
-    requires { i < 512 }
-{
-    if i < expected.len() {
-        return got[i] == expected[i];
-    }
-    got[i] == UNUSED
+// Whether a buffer begins with the expected numbers, and after them is as it was.
+fn same(got: &[u32], expected: &[u32]) -> bool {
+    got.strip_prefix(expected)
+        .is_some_and(|rest| rest.iter().all(|x| *x == UNUSED))
 }
 
-// Whether a buffer holds list k and after it what it held before, and those before it were the same.
-fn same(so_far: bool, got: &[u32; MOST], case: &[u32], k: usize) -> bool {
-    let expected = list(case, k);
-    if expected.len() > MOST {
-        return false;
-    }
-    for i in 0..MOST {
-        if !same_at(got, expected, i) {
-            return false;
-        }
-    }
-    so_far
+// Whether there is a list for each buffer, and they are the same.
+fn all_same(buffers: &[&[u32]], expected: &[&[u32]]) -> bool {
+    buffers.len() == expected.len()
+        && buffers
+            .iter()
+            .zip(expected)
+            .all(|(got, expected)| same(got, expected))
 }
 
-// Makes the call of a case and compares. The values are not in the list: a plan looks at none, and a stored 0.0 is an entry.
-fn same_call(case: &[u32]) -> bool {
+// Whether a case has its lists, and the call gives what is expected. The values are not in the list: a plan looks at none, and a stored 0.0 is
+// an entry.
+pub(crate) fn is_same(alloc: Global, case: &[u32]) -> Result<bool, AllocError> {
+    let lists = all_lists(alloc, case)?;
+    let &[
+        &[nrows, chunk_len],
+        ptrs,
+        rows,
+        kept,
+        elims,
+        lent,
+        &[code, first, second],
+        ref expected @ ..,
+    ] = lists.as_slice()
+    else {
+        return Ok(false);
+    };
+    // how many places are lent of a buffer that needs as many as there are columns, rows, eliminated blocks and one more, entries, kept blocks
+    // and one more, chunks and one more
+    let &[by_column, by_row, by_elim, by_entry, by_kept, by_chunk] = lent else {
+        return Ok(false);
+    };
+    let values = [0.0; MOST];
+    // each by its name, since an array of buffers whose parts are lent gets no proof; whole, since a list may reach past the part that is lent
     let mut map = [UNUSED; MOST];
     let mut kept_cols = [UNUSED; MOST];
     let mut elims_cols = [UNUSED; MOST];
@@ -82,73 +79,70 @@ fn same_call(case: &[u32]) -> bool {
     let mut elims_lo = [UNUSED; MOST];
     let mut elims_hi = [UNUSED; MOST];
     let mut elims_local = [UNUSED; MOST];
-    let values = [0.0; MOST];
-    let rows = list(case, 2);
-    let n = least(rows.len(), MOST);
-    let by_column = lent(case, 0);
-    let by_row = lent(case, 1);
-    let by_elim = lent(case, 2);
-    let by_entry = lent(case, 3);
-    let by_kept = lent(case, 4);
-    let by_chunk = lent(case, 5);
-    let answer = plan(
-        number(case, 0, 0),
-        list(case, 1),
+    let columns = Columns {
+        nrows: nrows as usize,
+        ptrs,
         rows,
-        &values[..n],
-        list(case, 3),
-        list(case, 4),
-        number(case, 0, 1),
-        &mut map[..by_column],
-        &mut kept_cols[..by_column],
-        &mut elims_cols[..by_column],
-        &mut elims_blocks[..by_column],
-        &mut owners[..by_row],
-        &mut row_list[..by_row],
-        &mut row_starts[..by_elim],
-        &mut visible[..by_entry],
-        &mut visible_starts[..by_kept],
-        &mut kept_starts[..by_chunk],
-        &mut kept_lo[..by_entry],
-        &mut kept_hi[..by_entry],
-        &mut kept_local[..by_entry],
-        &mut elims_starts[..by_chunk],
-        &mut elims_lo[..by_entry],
-        &mut elims_hi[..by_entry],
-        &mut elims_local[..by_entry],
+        values: &values[..rows.len().min(MOST)],
+    };
+    let sides = Sides { kept, elims };
+    let got = plan(
+        columns,
+        sides,
+        chunk_len as usize,
+        part(&mut map, by_column),
+        part(&mut kept_cols, by_column),
+        part(&mut elims_cols, by_column),
+        part(&mut elims_blocks, by_column),
+        part(&mut owners, by_row),
+        part(&mut row_list, by_row),
+        part(&mut row_starts, by_elim),
+        part(&mut visible, by_entry),
+        part(&mut visible_starts, by_kept),
+        part(&mut kept_starts, by_chunk),
+        part(&mut kept_lo, by_entry),
+        part(&mut kept_hi, by_entry),
+        part(&mut kept_local, by_entry),
+        part(&mut elims_starts, by_chunk),
+        part(&mut elims_lo, by_entry),
+        part(&mut elims_hi, by_entry),
+        part(&mut elims_local, by_entry),
     );
-    let ok = same_answer(answer, case);
-    let ok = same(ok, &map, case, 7);
-    let ok = same(ok, &kept_cols, case, 8);
-    let ok = same(ok, &elims_cols, case, 9);
-    let ok = same(ok, &elims_blocks, case, 10);
-    let ok = same(ok, &owners, case, 11);
-    let ok = same(ok, &row_list, case, 12);
-    let ok = same(ok, &row_starts, case, 13);
-    let ok = same(ok, &visible, case, 14);
-    let ok = same(ok, &visible_starts, case, 15);
-    let ok = same(ok, &kept_starts, case, 16);
-    let ok = same(ok, &kept_lo, case, 17);
-    let ok = same(ok, &kept_hi, case, 18);
-    let ok = same(ok, &kept_local, case, 19);
-    let ok = same(ok, &elims_starts, case, 20);
-    let ok = same(ok, &elims_lo, case, 21);
-    let ok = same(ok, &elims_hi, case, 22);
-    same(ok, &elims_local, case, 23)
+    let buffers: [&[u32]; 17] = [
+        &map,
+        &kept_cols,
+        &elims_cols,
+        &elims_blocks,
+        &owners,
+        &row_list,
+        &row_starts,
+        &visible,
+        &visible_starts,
+        &kept_starts,
+        &kept_lo,
+        &kept_hi,
+        &kept_local,
+        &elims_starts,
+        &elims_lo,
+        &elims_hi,
+        &elims_local,
+    ];
+    Ok(
+        all_same(&buffers, expected)
+            && told(got) == Some([code as usize, first as usize, second as usize]),
+    )
 }
 
-// Whether a case has its lists, and the call gives what is expected.
-pub(crate) fn is_same(case: &[u32]) -> bool {
-    if !well_formed(case, 24) {
-        return false;
-    }
-    if list(case, 0).len() != 2 || list(case, 5).len() != 6 || list(case, 6).len() != 3 {
-        return false;
-    }
-    same_call(case)
+// The first n places of a buffer, or all of them.
+fn part(buffer: &mut [u32; MOST], n: u32) -> &mut [u32] {
+    let n = MOST.min(n as usize);
+    &mut buffer[..n]
 }
 
-// Whether the original refused a case.
+// Whether the original refused a case: the first number of its answer, list 6, is not 0.
 pub(crate) fn is_refused(case: &[u32]) -> bool {
-    number(case, 6, 0) != 0
+    Lists(case)
+        .nth(6)
+        .and_then(|answer| answer.first())
+        .is_some_and(|number| *number != 0)
 }

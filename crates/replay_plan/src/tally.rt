@@ -1,129 +1,58 @@
 // Replaying a whole list, and what is counted of it.
-ghost use Rattle.std.specs.Prelude.{◌+◌, ◌≤◌, length};
-
 use crate::call::{is_refused, is_same};
-use crate::list::number_at;
-use std::io;
-use std::num::wrapping_add_u64;
+use crate::lists::Cases;
+use std::alloc::{AllocError, Global};
+use std::fmt;
 
-// The size of the case at `at`; 0 where no whole case stands there.
-fn size_at(words: &[u32], at: usize) -> usize
-    requires { at ≤ length words.now }
-    ensures { at + result ≤ length words.now }
-{
-    let size = number_at(words, at);
-    if size > words.len() - at {
-        return 0;
-    }
-    size
-}
-
-// The most differing cases whose numbers are kept and written.
+// The most differing cases whose numbers are written.
 const SHOWN: usize = 20;
 
-// What is counted of a list: its plans, those of them that were refused, those that differ, and the first of their numbers, which count from
-// 0. No list has so many plans that a count could wrap.
-#[derive(Clone, Copy)]
+// What is counted of a list: its plans, those of them that were refused, and the numbers, from 0, of those that differ. No list has so many plans
+// that a count could wrap.
+#[derive(Drop)]
 pub(crate) struct Tally {
-    pub plans: u64,
-    pub refused: u64,
-    pub differ: u64,
-    pub shown: [u64; SHOWN],
+    plans: u64,
+    refused: u64,
+    differing: Vec<u64>,
 }
 
-// Writes a name and a count.
-fn write_count(rt: &impl Print, name: &str, count: u64) -> io::Result<()> {
-    print!(rt; "{name}{count}")
-}
-
-impl Tally {
-    // Nothing yet.
-    fn new() -> Tally {
-        Tally {
-            plans: 0,
-            refused: 0,
-            differ: 0,
-            shown: [0; SHOWN],
-        }
-    }
-
-    // One more differs: what stands past the plans so far.
-    fn differs(mut self) -> Tally {
-        let n = self.differ;
-        if n < SHOWN as u64 {
-            let k = n as usize;
-            self.shown[k] = self.plans;
-        }
-        self.differ = wrapping_add_u64(n, 1);
-        self
-    }
-
-    // One more plan, refused or not.
-    fn counts(mut self, refused: bool) -> Tally {
-        if refused {
-            self.refused = wrapping_add_u64(self.refused, 1);
-        }
-        self.plans = wrapping_add_u64(self.plans, 1);
-        self
-    }
-
-    // One more plan, replayed.
-    fn with(self, case: &[u32]) -> Tally {
-        let refused = is_refused(case);
-        if is_same(case) {
-            return self.counts(refused);
-        }
-        self.differs().counts(refused)
-    }
-
-    // Writes the number of the differing case k, where there is one and it was kept.
-    fn write_case(self, rt: &impl Print, k: usize) -> io::Result<()> {
-        if k as u64 >= self.differ {
-            return Ok(());
-        }
-        if k >= SHOWN {
-            return Ok(());
-        }
-        if k == 0 {
-            write_count(rt, ": case ", self.shown[k])
-        } else {
-            write_count(rt, ", case ", self.shown[k])
-        }
-    }
-
-    // Writes the numbers of all differing cases that were kept.
-    fn write_cases(self, rt: &impl Print) -> io::Result<()> {
-        for k in 0..SHOWN {
-            self.write_case(rt, k)?;
+// A list's line, past its name.
+impl fmt::Display for Tally {
+    fn fmt<W: fmt::Write>(&self, f: &mut fmt::Formatter<W>) -> fmt::Result {
+        let plans = self.plans;
+        let refused = self.refused;
+        let differ = self.differing.len();
+        write!(
+            f,
+            "{plans} plans compared, {refused} of them refused, {differ} differ"
+        )?;
+        for (k, number) in self.differing.iter().take(SHOWN).enumerate() {
+            let head = if k == 0 { ':' } else { ',' };
+            write!(f, "{head} case {number}")?;
         }
         Ok(())
-    }
-
-    // Writes a list's line, which `head` begins.
-    pub(crate) fn write(self, rt: &impl Print, head: &str) -> io::Result<()> {
-        write_count(rt, head, self.plans)?;
-        write_count(rt, " plans compared, ", self.refused)?;
-        write_count(rt, " of them refused, ", self.differ)?;
-        print!(rt; " differ")?;
-        self.write_cases(rt)?;
-        println!(rt)
     }
 }
 
 // Replays every case of a list. What is left past the last whole case, `more` of the file among it, counts as one that differs.
-pub(crate) fn replay_list(words: &[u32], more: bool) -> Tally {
-    let mut tally = Tally::new();
-    let mut at: usize = 0;
-    while at < words.len() {
-        let size = size_at(words, at);
-        if size == 0 {
-            return tally.differs();
+pub(crate) fn replay_list(alloc: Global, words: &[u32], more: bool) -> Result<Tally, AllocError> {
+    let mut tally = Tally {
+        plans: 0,
+        refused: 0,
+        differing: Vec::new(alloc),
+    };
+    let mut cases = Cases(words);
+    for case in &mut cases {
+        if !is_same(alloc, case)? {
+            tally.differing.push(tally.plans)?;
         }
-        tally = tally.with(&words[at..at + size]);
-        at += size;
+        if is_refused(case) {
+            tally.refused = tally.refused.wrapping_add(1);
+        }
+        tally.plans = tally.plans.wrapping_add(1);
     }
-    if more {
-        return tally.differs();
+    if more || !cases.0.is_empty() {
+        tally.differing.push(tally.plans)?;
     }
-    tally
+    Ok(tally)
 }

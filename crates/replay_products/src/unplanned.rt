@@ -1,110 +1,87 @@
 // The products that need no plan: the block inverses, the couplings and the update. Each call gets what its problem and its case have, and
 // results exactly as long as the expected ones; its map is two places longer than the columns.
-use crate::list::{f64_room, list, number, places, same, same_map, take_f64, u32_places, u32_room};
-use crate::planned::is_done;
-use columns::refusal::Answer;
+use crate::lists::{floats, room, same};
+use crate::problem::Problem;
+use blocks::sides::Sides;
+use columns::lent::Columns;
+use columns::refusal::Refusal;
 use products::coupling::{apply_eliminated_inverse, coupling_times, coupling_transpose_times};
 use products::update::combine_updates;
+use std::alloc::{AllocError, Global};
 
-// The block inverses: list 0 has the vector, list 1 the result.
-pub(crate) fn same_inverse(problem: &[u32], case: &[u32]) -> bool {
-    let mut map = u32_room();
-    let mut values = f64_room();
-    let mut inverses = f64_room();
-    let mut b = f64_room();
-    let mut room = f64_room();
-    let columns = u32_places(list(problem, 6).len() + 2, &map);
-    let entries = take_f64(problem, 3, &mut values);
-    let squares = take_f64(problem, 7, &mut inverses);
-    let dof = take_f64(case, 0, &mut b);
-    let n = places(case, 1, &room);
-    let out = &mut room[..n];
+// The block inverses: the vector and the result.
+pub(crate) fn same_inverse(
+    alloc: Global,
+    p: &Problem,
+    b: &[u32],
+    out: &[u32],
+) -> Result<bool, AllocError> {
+    let b = floats(alloc, b)?;
+    let mut map = p.map_room(alloc)?;
+    let mut got = room(alloc, out)?;
     let answer = apply_eliminated_inverse(
-        number(problem, 0, 0),
-        list(problem, 1),
-        list(problem, 2),
-        &values[..entries],
-        list(problem, 4),
-        list(problem, 5),
-        &mut map[..columns],
-        &b[..dof],
-        &inverses[..squares],
-        out,
+        p.columns(),
+        p.sides,
+        &mut map,
+        &b,
+        &p.inverses,
+        &mut got,
     );
-    is_done(answer) && same_map(&map, problem, 6) && same(out, case, 1)
+    Ok(answer.is_ok() && p.same_map(&map) && same(&got, out))
 }
 
-// The coupling, from the eliminated side, or its transpose, from the kept one.
-fn couple(
-    transpose: bool,
-    problem: &[u32],
-    values: &[f64],
-    map: &mut [u32],
+// A coupling product, which `couple` makes of a vector with the map, the rows and the result that it is lent: the rows and the result.
+fn same_coupled<
+    F: FnOnce(Columns, Sides, &mut [u32], &[f64], &mut [f64], &mut [f64]) -> Result<(), Refusal>,
+>(
+    alloc: Global,
+    p: &Problem,
     v: &[f64],
-    y: &mut [f64],
-    out: &mut [f64],
-) -> Answer {
-    let nrows = number(problem, 0, 0);
-    let ptrs = list(problem, 1);
-    let rows = list(problem, 2);
-    let kept = list(problem, 4);
-    let elims = list(problem, 5);
-    if transpose {
-        return coupling_transpose_times(nrows, ptrs, rows, values, kept, elims, map, v, y, out);
-    }
-    coupling_times(nrows, ptrs, rows, values, kept, elims, map, v, y, out)
+    rows: &[u32],
+    out: &[u32],
+    couple: F,
+) -> Result<bool, AllocError>
+    requires { F.IsAlwaysCallable couple }
+{
+    let mut map = p.map_room(alloc)?;
+    let mut got_rows = room(alloc, rows)?;
+    let mut got = room(alloc, out)?;
+    let answer = couple(p.columns(), p.sides, &mut map, v, &mut got_rows, &mut got);
+    Ok(answer.is_ok() && p.same_map(&map) && same(&got_rows, rows) && same(&got, out))
 }
 
-// A coupling product: list 0 has the rows, list 1 the result; the problem's list `vector` is multiplied.
-pub(crate) fn same_coupling(transpose: bool, problem: &[u32], vector: usize, case: &[u32]) -> bool {
-    let mut map = u32_room();
-    let mut values = f64_room();
-    let mut v = f64_room();
-    let mut row_room = f64_room();
-    let mut room = f64_room();
-    let columns = u32_places(list(problem, 6).len() + 2, &map);
-    let entries = take_f64(problem, 3, &mut values);
-    let dof = take_f64(problem, vector, &mut v);
-    let rows = places(case, 0, &row_room);
-    let y = &mut row_room[..rows];
-    let n = places(case, 1, &room);
-    let out = &mut room[..n];
-    let answer = couple(
-        transpose,
-        problem,
-        &values[..entries],
-        &mut map[..columns],
-        &v[..dof],
-        y,
-        out,
-    );
-    is_done(answer) && same_map(&map, problem, 6) && same(y, case, 0) && same(out, case, 1)
+// The coupling, of the eliminated side's vector.
+pub(crate) fn same_coupling(
+    alloc: Global,
+    p: &Problem,
+    rows: &[u32],
+    out: &[u32],
+) -> Result<bool, AllocError> {
+    same_coupled(alloc, p, &p.elims.v, rows, out, coupling_times)
 }
 
-// The update: list 0 has the kept side's, list 1 the eliminated one's, list 2 all columns'.
-pub(crate) fn same_update(problem: &[u32], case: &[u32]) -> bool {
-    let mut map = u32_room();
-    let mut values = f64_room();
-    let mut kept_update = f64_room();
-    let mut elims_update = f64_room();
-    let mut room = f64_room();
-    let columns = u32_places(list(problem, 6).len() + 2, &map);
-    let entries = take_f64(problem, 3, &mut values);
-    let kept_dof = take_f64(case, 0, &mut kept_update);
-    let elims_dof = take_f64(case, 1, &mut elims_update);
-    let n = places(case, 2, &room);
-    let out = &mut room[..n];
-    let answer = combine_updates(
-        number(problem, 0, 0),
-        list(problem, 1),
-        list(problem, 2),
-        &values[..entries],
-        list(problem, 4),
-        list(problem, 5),
-        &mut map[..columns],
-        &kept_update[..kept_dof],
-        &elims_update[..elims_dof],
-        out,
-    );
-    is_done(answer) && same_map(&map, problem, 6) && same(out, case, 2)
+// Its transpose, of the kept side's vector.
+pub(crate) fn same_transpose(
+    alloc: Global,
+    p: &Problem,
+    rows: &[u32],
+    out: &[u32],
+) -> Result<bool, AllocError> {
+    same_coupled(alloc, p, &p.kept.v, rows, out, coupling_transpose_times)
+}
+
+// The update: the kept side's, the eliminated one's, and all columns'.
+pub(crate) fn same_update(
+    alloc: Global,
+    p: &Problem,
+    kept: &[u32],
+    elims: &[u32],
+    out: &[u32],
+) -> Result<bool, AllocError> {
+    let kept = floats(alloc, kept)?;
+    let elims = floats(alloc, elims)?;
+    let mut map = p.map_room(alloc)?;
+    let mut got = room(alloc, out)?;
+    let answer = combine_updates(p.columns(), p.sides, &mut map, &kept, &elims, &mut got);
+    Ok(answer.is_ok() && p.same_map(&map) && same(&got, out))
 }

@@ -21,7 +21,7 @@ use Rattle.product_laws.proofs.CallParts.{sweep_columns, sweep_kept, sweep_elims
 use Rattle.undivided.specs.Undivided.{cut, lists_of, OverPlan}
 
 -- one side's plan, with the span counts k and n that were answered: its lists as they are left, cut to their used parts
-abbrev pub plan_over : (κs : Lfts 22) → ArgsD planning.signature κs → AtExit (ended_of 22 plan_kinds.ps plan_kinds.r) κs → ℕ → ℕ → Bool → OverPlan
+abbrev pub plan_over : (κs : Lfts 19) → ArgsD planning.signature κs → AtExit (ended_of 19 plan_kinds.ps plan_kinds.r) κs → ℕ → ℕ → Bool → OverPlan
 plan_over κs a t k n e = record {
   columns = plan_columns κs a;
   kept = plan_kept κs a;
@@ -31,13 +31,13 @@ plan_over κs a t k n e = record {
 }
 
 -- and as it is lent
-abbrev pub sweep_over : (κs : Lfts 14) → ArgsD sweeping.signature κs → OverPlan
+abbrev pub sweep_over : (κs : Lfts 8) → ArgsD sweeping.signature κs → OverPlan
 sweep_over κs a = record { columns = sweep_columns κs a; kept = sweep_kept κs a; elims = sweep_elims κs a; len = sweep_len κs a; lists = sweep_lists κs a }
 
-abbrev pub step_over : (κs : Lfts 13) → ArgsD stepping.signature κs → OverPlan
+abbrev pub step_over : (κs : Lfts 7) → ArgsD stepping.signature κs → OverPlan
 step_over κs a = record { columns = step_columns κs a; kept = step_kept κs a; elims = step_elims κs a; len = step_len κs a; lists = step_lists κs a }
 
-abbrev pub operator_over : (κs : Lfts 21) → ArgsD operating.signature κs → Bool → OverPlan
+abbrev pub operator_over : (κs : Lfts 12) → ArgsD operating.signature κs → Bool → OverPlan
 operator_over κs a e = record {
   columns = operator_columns κs a;
   kept = operator_kept κs a;
@@ -47,10 +47,10 @@ operator_over κs a e = record {
 }
 
 -- the terms of a sweep, along its order; and those of a step: the span of its chunk at the progress that it is lent
-abbrev pub sweep_terms_of : (κs : Lfts 14) → ArgsD sweeping.signature κs → List RowTerm
+abbrev pub sweep_terms_of : (κs : Lfts 8) → ArgsD sweeping.signature κs → List RowTerm
 sweep_terms_of κs a = order_terms (sweep_columns κs a) (sweep_lists κs a) (sweep_vector κs a) (sweep_order κs a)
 
-abbrev pub step_terms_of : (κs : Lfts 13) → ArgsD stepping.signature κs → List RowTerm
+abbrev pub step_terms_of : (κs : Lfts 7) → ArgsD stepping.signature κs → List RowTerm
 step_terms_of κs a =
     span_terms (step_columns κs a) (step_lists κs a) (step_vector κs a)
     (get_or (step_lists κs a).starts (step_chunk_of κs a) 0 + get_or (step_progress κs a) (step_chunk_of κs a) 0)

@@ -16,19 +16,18 @@ use borrow.Fn.Kinds.{ended_of}
 use borrow.Fn.World.{ArgsD}
 use Rattle.ground.specs.Gather.{gather}
 use Rattle.ground.proofs.GatherLaws.{gather_same}
-use Rattle.columns.specs.declared.refusal.Answer.{Answer}
-use Rattle.columns.specs.Refusals.{Told, tell, done, told, Passes, or_else}
+use Rattle.columns.specs.Refusals.{Answer, Told, tell, done, told, Passes, or_else}
 use Rattle.columns.specs.Lengths.{no_room_of, wrong_length}
 use Rattle.columns.specs.Columns.{Columns, column_count}
 use Rattle.columns.specs.Sums.{RowTerm, swept_on}
 use Rattle.columns.proofs.RefusalLaws.{pass_done}
 use Rattle.blocks.specs.Sides.{side_of}
-use Rattle.plan.specs.declared.structure.Planned.TheVariants as planned
+use Rattle.std.specs.Prelude.{Ok}
 use Rattle.plan.specs.Owners.{Connects}
 use Rattle.plan.specs.Spans.{chunk_count_of, side_spans}
 use Rattle.plan.specs.Plan.{Buffers, plan_told, plan_left}
 use Rattle.plan_laws.proofs.PlanLaws.{Sound, passes_sound, planned_unconnected, unconnected_planned}
-use Rattle.plan_laws.proofs.Determined.{plan-tells, plan_leaves_lem}
+use Rattle.plan_laws.proofs.Determined.{counts, plan-tells, plan_leaves_lem}
 use Rattle.products.specs.Orders.{Swept, bad_order, order_terms, span_terms, sign_of, start_rows, step_of, step_order, sweep_of, sweep_told₁₄, sweep_lengths}
 use Rattle.products.specs.OrderWalk.{place_terms}
 use Rattle.product_laws.specs.Steps.{steps_of, After}
@@ -69,12 +68,12 @@ use Rattle.products.proofs.operator.apply_schur_operator.Reads as operator
 -- ---- the plan
 
 -- where `plan` answers 0 with k and n spans, its lists at exit, cut to their used parts, are the plan of the kept side and of the eliminated one
-module _ (κs : Lfts 22) (a : _) (t : _) (k n : ℕ) (post : plan.Post κs a (planned.Done k n) t) where
+module _ (κs : Lfts 19) (a : _) (t : _) (k n : ℕ) (post : plan.Post κs a (Ok (counts k n)) t) where
   abbrev m : Columns
   m = plan_columns κs a
 
   abbrev tells : tell 0 (k ∷ n ∷ []) ≡ plan_told m (plan_kept κs a) (plan_elims κs a) (plan_len κs a) (plan_lent κs a)
-  tells = plan-tells κs a t (planned.Done k n) post
+  tells = plan-tells κs a t (Ok (counts k n)) post
 
   passes : Passes (plan_told m (plan_kept κs a) (plan_elims κs a) (plan_len κs a) (plan_lent κs a))
   passes = sym (ap (λ (w : Told). w.number) tells)
@@ -93,7 +92,7 @@ module _ (κs : Lfts 22) (a : _) (t : _) (k n : ℕ) (post : plan.Post κs a (pl
   pub plan_carried : (e : Bool) → PlannedOver e (plan_over κs a t k n e)
   plan_carried e =
       subst (λ (b : Buffers). SidePlanned m (plan_kept κs a) (plan_elims κs a) e (plan_len κs a) (cut (chunk_count_of m.nrows (plan_len κs a)) (cond e n k) (lists_of e b)))
-      (sym (plan_leaves_lem κs a t (planned.Done k n) post))
+      (sym (plan_leaves_lem κs a t (Ok (counts k n)) post))
       (subst (λ (i : ℕ). SidePlanned m (plan_kept κs a) (plan_elims κs a) e (plan_len κs a) (cut (chunk_count_of m.nrows (plan_len κs a)) i (lists_of e (plan_left m (plan_kept κs a) (plan_elims κs a) (plan_len κs a) (plan_lent κs a)))))
       (sym (span_counts e)) (left-planned m (plan_kept κs a) (plan_elims κs a) (plan_len κs a) (plan_lent κs a) sound apart e))
 
@@ -104,7 +103,7 @@ module _ (κs : Lfts 22) (a : _) (t : _) (k n : ℕ) (post : plan.Post κs a (pl
 -- ---- a sweep
 
 -- `sweep`, lent a side's plan
-module _ (κs : Lfts 14) (a : _) (t : _) (q : Answer) (post : sweep.Post κs a q t) (p : PlannedOver (sweep_side κs a) (sweep_over κs a)) where
+module _ (κs : Lfts 8) (a : _) (t : _) (q : Answer) (post : sweep.Post κs a q t) (p : PlannedOver (sweep_side κs a) (sweep_over κs a)) where
   abbrev l : OverPlan
   l = sweep_over κs a
 
@@ -172,7 +171,7 @@ module _ (κs : Lfts 14) (a : _) (t : _) (q : Answer) (post : sweep.Post κs a q
 -- ---- steps one after the other
 
 -- `step`, lent a side's plan, is never refused for it
-module _ (κs : Lfts 13) (a : _) (t : _) (q : Answer) (post : step.Post κs a q t) (p : PlannedOver (step_side κs a) (step_over κs a)) where
+module _ (κs : Lfts 7) (a : _) (t : _) (q : Answer) (post : step.Post κs a q t) (p : PlannedOver (step_side κs a) (step_over κs a)) where
   abbrev w : OverPlan
   w = step_over κs a
 
@@ -200,7 +199,7 @@ module _ (κs : Lfts 13) (a : _) (t : _) (q : Answer) (post : step.Post κs a q 
       (plan-places w.columns w.kept w.elims (step_side κs a) w.len w.lists p (step_map κs a) (step_vector κs a) (step_rows κs a) (step_progress κs a) place low high)
 
 -- calls of `step`, place by place of an order
-module _ (κs : ℕ → Lfts 13) (a : (i : ℕ) → ArgsD stepping.signature (κs i)) (t : (i : ℕ) → AtExit (ended_of 13 step_kinds.ps step_kinds.r) (κs i)) where
+module _ (κs : ℕ → Lfts 7) (a : (i : ℕ) → ArgsD stepping.signature (κs i)) (t : (i : ℕ) → AtExit (ended_of 7 step_kinds.ps step_kinds.r) (κs i)) where
   -- all else lent stays the same, each map has room, and rows and progress are y and 0, and then as the step before left them
   pub record Chain (e : Bool) (l : OverPlan) (v : List Float) (order : List ℕ) (y : List Float) : Type 0 where
     pub sides : (i : ℕ) → i < length order → step_side (κs i) (a i) ≡ e
@@ -334,7 +333,7 @@ module _ (κs : ℕ → Lfts 13) (a : (i : ℕ) → ArgsD stepping.signature (κ
 -- ---- the operator
 
 -- `apply_schur_operator`, lent both sides' plans
-module _ (κs : Lfts 21) (a : _) (t : _) (q : Answer) (post : operator.Post κs a q t) (p : (e : Bool) → PlannedOver e (operator_over κs a e)) where
+module _ (κs : Lfts 12) (a : _) (t : _) (q : Answer) (post : operator.Post κs a q t) (p : (e : Bool) → PlannedOver e (operator_over κs a e)) where
   abbrev both : OverPlan
   both = operator_over κs a false
 
@@ -372,20 +371,20 @@ module _ (κs : Lfts 21) (a : _) (t : _) (q : Answer) (post : operator.Post κs 
 -- ---- from one call to the next
 
 -- `plan` answered 0 with k and n spans; the calls after it are lent its columns, sides, chunk length, and lists as it left them, cut
-module _ (κs : Lfts 22) (a : _) (t : _) (k n : ℕ) (made : plan.Post κs a (planned.Done k n) t) where
+module _ (κs : Lfts 19) (a : _) (t : _) (k n : ℕ) (made : plan.Post κs a (Ok (counts k n)) t) where
   -- an accepted sweep of either side hands each row the undivided sweep's terms, whatever the order and the chunk length
-  pub planned_sweep : (λs : Lfts 14) (b : _) (u : _) (q : Answer) → sweep.Post λs b q u → sweep_over λs b ≡ plan_over κs a t k n (sweep_side λs b) → told q ≡ done
+  pub planned_sweep : (λs : Lfts 8) (b : _) (u : _) (q : Answer) → sweep.Post λs b q u → sweep_over λs b ≡ plan_over κs a t k n (sweep_side λs b) → told q ≡ done
       → Undivided (sweep_side λs b) (sweep_over λs b) (sweep_vector λs b) (start_rows (sweep_side λs b) (sweep_rows λs b)) (sweep_terms_of λs b) (sweep_rows_left λs u)
   planned_sweep λs b u q post same ok = sweep_whole λs b u q post (lent_carried κs a t k n made (sweep_side λs b) (sweep_over λs b) same) ok
 
   -- so do steps one after the other, from any rows, where the order serves each chunk as often as it has spans
-  pub planned_steps : (λs : ℕ → Lfts 13) (b : (i : ℕ) → ArgsD stepping.signature (λs i)) (u : (i : ℕ) → AtExit (ended_of 13 step_kinds.ps step_kinds.r) (λs i)) (q : ℕ → Answer) (e : Bool) (l : OverPlan) (v : List Float) (order : List ℕ) (y : List Float)
+  pub planned_steps : (λs : ℕ → Lfts 7) (b : (i : ℕ) → ArgsD stepping.signature (λs i)) (u : (i : ℕ) → AtExit (ended_of 7 step_kinds.ps step_kinds.r) (λs i)) (q : ℕ → Answer) (e : Bool) (l : OverPlan) (v : List Float) (order : List ℕ) (y : List Float)
       → ((i : ℕ) → i < length order → step.Post (λs i) (b i) (q i) (u i)) → Chain λs b u e l v order y → l ≡ plan_over κs a t k n e → VectorsFit e l v y → ServesOver l order
       → Undivided e l v y (terms_of λs b u (length order)) (rows_after λs b u y (length order))
   planned_steps λs b u q e l v order y post c same f x = steps_whole λs b u q e l v order y post c (lent_carried κs a t k n made e l same) f x
 
   -- and the operator leaves document 01's sums
-  pub planned-operator : (λs : Lfts 21) (b : _) (u : _) (q : Answer) → operator.Post λs b q u → ((e : Bool) → operator_over λs b e ≡ plan_over κs a t k n e) → told q ≡ done
+  pub planned-operator : (λs : Lfts 12) (b : _) (u : _) (q : Answer) → operator.Post λs b q u → ((e : Bool) → operator_over λs b e ≡ plan_over κs a t k n e) → told q ≡ done
       → operator_work_left λs u
       ≡ plain_operated (operator_over λs b false).columns (operator_over λs b false).kept (operator_over λs b false).elims (operator_operands λs b).v (operator_operands λs b).inverses (operator_operands λs b).d
   planned-operator λs b u q post same ok = operator-work λs b u q post (λ e. lent_carried κs a t k n made e (operator_over λs b e) (same e)) ok

@@ -13,17 +13,15 @@ use contract.Lifetimes.{Lfts}
 use denote.Triple.Clauses.{AtExit}
 use borrow.Fn.Kinds.{ended_of}
 use borrow.Fn.World.{ArgsD}
-use Rattle.columns.specs.declared.refusal.Answer.{Answer}
-use Rattle.columns.specs.Refusals.{done, told}
+use Rattle.columns.specs.Refusals.{Answer, done, told}
 use Rattle.blocks.specs.Sides.{side_of}
-use Rattle.plan.specs.declared.structure.Planned.{Planned}
-use Rattle.plan.specs.declared.structure.Planned.TheVariants.{Done}
+use Rattle.std.specs.Prelude.{Ok}
 use Rattle.plan.specs.Owners.{Connects}
 use Rattle.plan.specs.Spans.{side_spans}
 use Rattle.plan.specs.Plan.{told_plan}
 use Rattle.plan_laws.proofs.PlanLaws.{Sound, connects_or_not}
 use Rattle.plan_laws.proofs.CallParts.{plan_columns, plan_kept, plan_elims, plan_len, plan_lent}
-use Rattle.plan_laws.proofs.Determined.{plan_refuses, plan_answers}
+use Rattle.plan_laws.proofs.Determined.{Planned, counts, plan_refuses, plan_answers}
 use Rattle.products.specs.Orders.{start_rows}
 use Rattle.product_laws.proofs.CallParts.{sweep_side, sweep_map, sweep_vector, sweep_rows, sweep_progress, sweep_order, sweep_rows_left}
 use Rattle.undivided.specs.Undivided.{OverPlan, over_side, ServesOver, Undivided, VectorsFit, SweepFits}
@@ -38,7 +36,7 @@ use Rattle.products.proofs.order.step.Kinds as step_kinds
 use Rattle.products.proofs.order.step.Reads as step
 
 -- a call of `plan`, its answer, and what it left
-module _ (κs : Lfts 22) (a : _) (t : _) (q : Planned) (post : plan.Post κs a q t) where
+module _ (κs : Lfts 19) (a : _) (t : _) (q : Planned) (post : plan.Post κs a q t) where
   -- how many spans a side has, by document 01's words
   abbrev pub spans : Bool → ℕ
   spans e = length (side_spans (plan_columns κs a) (side_of e (plan_kept κs a) (plan_elims κs a)) (plan_len κs a))
@@ -55,30 +53,30 @@ module _ (κs : Lfts 22) (a : _) (t : _) (q : Planned) (post : plan.Post κs a q
   -- no row has, and the answer is 0 with both counts
   pub record Answered : Type 0 where
     pub apart : Connects (plan_columns κs a) (plan_elims κs a) → ⊥
-    pub answer : q ≡ Done (spans false) (spans true)
+    pub answer : q ≡ Ok (counts (spans false) (spans true))
 
   -- a sweep over the plan that was left, all else of its length: it is accepted exactly if its order serves each chunk as often as it has spans, and
   -- then it is the undivided sweep over the rows that it starts from
-  pub record SweepGood (λs : Lfts 14) (b : ArgsD sweeping.signature λs) (u : AtExit (ended_of 14 sweep_kinds.ps sweep_kinds.r) λs) (w : Answer) : Type 0 where
+  pub record SweepGood (λs : Lfts 8) (b : ArgsD sweeping.signature λs) (u : AtExit (ended_of 8 sweep_kinds.ps sweep_kinds.r) λs) (w : Answer) : Type 0 where
     pub accepted : ServesOver (sweep_over λs b) (sweep_order λs b) → told w ≡ done
     pub served : told w ≡ done → ServesOver (sweep_over λs b) (sweep_order λs b)
     pub whole : told w ≡ done → Undivided (sweep_side λs b) (sweep_over λs b) (sweep_vector λs b) (start_rows (sweep_side λs b) (sweep_rows λs b)) (sweep_terms_of λs b) (sweep_rows_left λs u)
 
   pub record Sweeps : Type 0 where
     pub answered : Answered
-    pub each : (λs : Lfts 14) (b : ArgsD sweeping.signature λs) (u : AtExit (ended_of 14 sweep_kinds.ps sweep_kinds.r) λs) (w : Answer) → sweep.Post λs b w u
+    pub each : (λs : Lfts 8) (b : ArgsD sweeping.signature λs) (u : AtExit (ended_of 8 sweep_kinds.ps sweep_kinds.r) λs) (w : Answer) → sweep.Post λs b w u
         → sweep_over λs b ≡ over (sweep_side λs b)
         → SweepFits (sweep_over λs b).columns (over_side (sweep_side λs b) (sweep_over λs b)) (sweep_over λs b).len (sweep_map λs b) (sweep_vector λs b) (sweep_rows λs b) (sweep_progress λs b)
         → SweepGood λs b u w
 
   -- calls of `step`, place by place of an order: each is accepted, and together they are the undivided sweep over the rows that the first is lent
-  pub record StepsGood (λs : ℕ → Lfts 13) (b : (i : ℕ) → ArgsD stepping.signature (λs i)) (u : (i : ℕ) → AtExit (ended_of 13 step_kinds.ps step_kinds.r) (λs i)) (w : ℕ → Answer) (e : Bool) (v : List Float) (order : List ℕ) (y : List Float) : Type 0 where
+  pub record StepsGood (λs : ℕ → Lfts 7) (b : (i : ℕ) → ArgsD stepping.signature (λs i)) (u : (i : ℕ) → AtExit (ended_of 7 step_kinds.ps step_kinds.r) (λs i)) (w : ℕ → Answer) (e : Bool) (v : List Float) (order : List ℕ) (y : List Float) : Type 0 where
     pub accepted : (i : ℕ) → i < length order → told (w i) ≡ done
     pub whole : Undivided e (over e) v y (terms_of λs b u (length order)) (rows_after λs b u y (length order))
 
   pub record Steps : Type 0 where
     pub answered : Answered
-    pub each : (λs : ℕ → Lfts 13) (b : (i : ℕ) → ArgsD stepping.signature (λs i)) (u : (i : ℕ) → AtExit (ended_of 13 step_kinds.ps step_kinds.r) (λs i)) (w : ℕ → Answer) (e : Bool) (v : List Float) (order : List ℕ) (y : List Float)
+    pub each : (λs : ℕ → Lfts 7) (b : (i : ℕ) → ArgsD stepping.signature (λs i)) (u : (i : ℕ) → AtExit (ended_of 7 step_kinds.ps step_kinds.r) (λs i)) (w : ℕ → Answer) (e : Bool) (v : List Float) (order : List ℕ) (y : List Float)
         → ((i : ℕ) → i < length order → step.Post (λs i) (b i) (w i) (u i)) → Chain λs b u e (over e) v order y → VectorsFit e (over e) v y → ServesOver (over e) order
         → StepsGood λs b u w e v order y
 
@@ -92,7 +90,7 @@ module _ (κs : Lfts 22) (a : _) (t : _) (q : Planned) (post : plan.Post κs a q
         go (inr ne) = inr (record { apart = ne; answer = plan_answers κs a t q post sound ne })
 
     -- the promise of the call, with the answer that it gives
-    promised : Answered → plan.Post κs a (Done (spans false) (spans true)) t
+    promised : Answered → plan.Post κs a (Ok (counts (spans false) (spans true))) t
     promised x = subst (λ (w : Planned). plan.Post κs a w t) x.answer post
 
     pub demand_3_sweeps : Refused ⊎ Sweeps

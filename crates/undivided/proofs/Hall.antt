@@ -10,7 +10,7 @@ use lib.Ieee.{Float}
 use Rattle.ground.specs.First.{first, first_n}
 use Rattle.ground.specs.Gather.{gather, gather_n}
 use Rattle.columns.specs.Refusals.{Passes, done, on_pass}
-use Rattle.columns.specs.Lengths.{pair_bad, pairs_told, no_room_of}
+use Rattle.columns.specs.Lengths.{misfits, pair_bad, pairs_told, no_room_of}
 use Rattle.columns.specs.Columns.{first_in, end_in, too_big, falls, bad_shape, row_bad, row_falls, column_bad, bad_row, checked}
 use Rattle.columns.proofs.CallLaws.{room-right}
 use Rattle.blocks.specs.Sides.{block_columns, offset_of, side_of}
@@ -33,7 +33,7 @@ use Rattle.undivided.proofs.OrderLaws.{accepted_serves}
 
 -- it keeps the rules
 hall_passes : Passes (blocks_told hall kept elims (replicate 3 0))
-unfolding first_n first gather_n gather on_pass pair_bad pairs_told first_in end_in too_big falls bad_shape row_bad row_falls column_bad bad_row checked block_columns too_many is_odd lists_told empty_side early_told block_claims place_of claim_bad walk_told gap_told blocks_told
+unfolding first_n first gather_n gather on_pass pair_bad misfits pairs_told first_in end_in too_big falls bad_shape row_bad row_falls column_bad bad_row checked block_columns too_many is_odd lists_told empty_side early_told block_claims place_of claim_bad walk_told gap_told blocks_told
 hall_passes = refl
 
 hall_keep : BlocksKeep hall kept elims (replicate 3 0)
@@ -77,7 +77,7 @@ elims_serves = accepted_serves (chunk_count_of 5 2) elims_lists order (rw elims-
 
 -- lent buffers of just the room that it needs, planning is sound
 hall-room : Passes (no_room_of (room hall kept elims 2 unused_buffers))
-unfolding first_n first pair_bad pairs_told chunk_count_of room
+unfolding first_n first pair_bad misfits pairs_told chunk_count_of room
 hall-room = refl
 
 pub hall_sound : Sound hall kept elims 2 unused_buffers

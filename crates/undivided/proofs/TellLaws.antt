@@ -12,7 +12,7 @@ use borrow.Author.Tests.{le-ltb, ltb-true}
 use Rattle.ground.specs.First.{first, some}
 use Rattle.ground.proofs.FirstLaws.{first_bad, none_past}
 use Rattle.columns.specs.Refusals.{Told, tell, done, on_pass, or_else}
-use Rattle.columns.specs.Lengths.{length_of, need_of, pair_bad, bad_pair, pairs_told, no_room_of, wrong_length}
+use Rattle.columns.specs.Lengths.{length_of, need_of, pair_bad, bad_pair, pairs_told, no_room_of, wrong_length, misfits}
 use Rattle.columns.specs.Columns.{Columns, column_count, Keeps}
 use Rattle.columns.proofs.RefusalLaws.{or_done}
 use Rattle.blocks.specs.Sides.{side_of}
@@ -31,7 +31,7 @@ use Rattle.undivided.proofs.Demand3.{plan_passes, plan_lengths_lem}
 
 -- lists that each have their length pass 11
 same_good : (pairs : List ℕ) (k : ℕ) → length_of pairs k ≡ need_of pairs k → pair_bad true pairs k ≡ false
-unfolding pair_bad
+unfolding pair_bad misfits
 same_good pairs k e = rw (le-ltb (length_of pairs k) (need_of pairs k) (omega arith), le-ltb (need_of pairs k) (length_of pairs k) (omega arith))
 
 pub lengths_done : (pairs : List ℕ) → ((k : ℕ) → k < length pairs / 2 → length_of pairs k ≡ need_of pairs k) → wrong_length pairs ≡ done

@@ -9,7 +9,3 @@ use Rattle.blocks.proofs.block_values.damp_block.Given as goal
 abbrev pub invariant-loop-k : goal.invariant-loop-k
 invariant-loop-k l =
     (length l.out ≡ length l.initial.out) × (range (damp_column l.damping l.dof l.at) l.k l.dof l.out ≡ range (damp_column l.damping l.dof l.at) 0 l.dof l.initial.out)
-
-abbrev pub decreases-loop-k : goal.decreases-loop-k
-decreases-loop-k l =
-    l.dof - l.k

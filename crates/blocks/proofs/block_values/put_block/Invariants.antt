@@ -1,6 +1,6 @@
 -- `blocks::block_values::put_block` meets its contract. Assumes nothing.
 use Rattle.blocks.specs.BlockValues.{dot_column, writing, put}
-use Rattle.columns.specs.Columns.{columns_of}
+use Rattle.columns.specs.Lent.{seen}
 use Rattle.ground.specs.Gather.{gather}
 use Rattle.ground.specs.Fold.{folded}
 use lib.ListN.{length}
@@ -11,9 +11,5 @@ use Rattle.blocks.proofs.block_values.put_block.Given as goal
 abbrev pub invariant-loop-c : goal.invariant-loop-c
 invariant-loop-c l =
     (l.c ≤ l.dof) × (length l.out ≡ length l.initial.out)
-    × (folded put (writing (l.at + l.c * l.dof) l.out) (gather (dot_column (columns_of l.nrows l.ptrs l.rows l.values) l.first l.dof) l.c l.dof)
-    ≡ folded put (writing l.at l.initial.out) (gather (dot_column (columns_of l.nrows l.ptrs l.rows l.values) l.first l.dof) 0 l.dof))
-
-abbrev pub decreases-loop-c : goal.decreases-loop-c
-decreases-loop-c l =
-    l.dof - l.c
+    × (folded put (writing (l.at + l.c * l.dof) l.out) (gather (dot_column (seen l.columns) l.first l.dof) l.c l.dof)
+    ≡ folded put (writing l.at l.initial.out) (gather (dot_column (seen l.columns) l.first l.dof) 0 l.dof))

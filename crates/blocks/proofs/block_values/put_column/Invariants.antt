@@ -1,6 +1,6 @@
 -- `blocks::block_values::put_column` meets its contract. Assumes nothing.
 use Rattle.blocks.specs.BlockValues.{dot_entry, dot_column, writing, put}
-use Rattle.columns.specs.Columns.{columns_of}
+use Rattle.columns.specs.Lent.{seen}
 use Rattle.ground.specs.Gather.{gather}
 use Rattle.ground.specs.Fold.{folded}
 use lib.ListN.{length}
@@ -11,9 +11,5 @@ use Rattle.blocks.proofs.block_values.put_column.Given as goal
 abbrev pub invariant-loop-r : goal.invariant-loop-r
 invariant-loop-r l =
     (l.r ≤ l.dof) × (length l.out ≡ length l.initial.out)
-    × (folded put (writing (l.at + l.r) l.out) (gather (dot_entry (columns_of l.nrows l.ptrs l.rows l.values) l.first l.col) l.r l.dof)
-    ≡ folded put (writing l.at l.initial.out) (dot_column (columns_of l.nrows l.ptrs l.rows l.values) l.first l.dof l.col))
-
-abbrev pub decreases-loop-r : goal.decreases-loop-r
-decreases-loop-r l =
-    l.dof - l.r
+    × (folded put (writing (l.at + l.r) l.out) (gather (dot_entry (seen l.columns) l.first l.col) l.r l.dof)
+    ≡ folded put (writing l.at l.initial.out) (dot_column (seen l.columns) l.first l.dof l.col))

@@ -11,7 +11,3 @@ use Rattle.blocks.proofs.check.claim_block.Given as goal
 abbrev pub invariant-loop-i : goal.invariant-loop-i
 invariant-loop-i l =
     (walked l.n (through l.next l.map) (gather (column_at l.first) l.i l.dof) ≡ walked l.n (through l.start l.initial.map) (block_claims l.n l.side l.b)) × Room l.n l.next l.map × (l.first + l.i ≤ l.n) × (l.i ≤ l.dof) × (length l.map ≡ length l.initial.map)
-
-abbrev pub decreases-loop-i : goal.decreases-loop-i
-decreases-loop-i l =
-    l.dof - l.i

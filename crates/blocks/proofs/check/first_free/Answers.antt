@@ -1,27 +1,26 @@
--- `check::first_free` meets its contract. Assumes nothing.
-use Rattle.blocks.proofs.WalkRules.{walking}
+-- `check::first_free` stops at the first free place. Assumes nothing.
+use Rattle.std.proofs.Common.{◌≡◌, ◌<◌, ◌≤◌, sym, ◌∙◌, arith, length}
+use lib.Seq.{get_or-take, length-take-le}
+use Rattle.ground.proofs.FirstLaws.{first_turn, first_stop, first_end}
+use Rattle.blocks.specs.Walk.{is_free_of}
+use Rattle.blocks.proofs.WalkRules.{found_at, found_none, is_free, is_taken}
 use Rattle.blocks.proofs.check.first_free.Goals as goal
 
-pub loop-c-init : goal.loop-c-init
-loop-c-init c = search walking
-
-pub offset_bounds-map-c : goal.offset_bounds-map-c
-offset_bounds-map-c c = search walking
-
-pub bounds-map-c : goal.bounds-map-c
-bounds-map-c c = search walking
-
-pub returns-then-map-c : goal.returns-then-map-c
-returns-then-map-c c = search walking
-
-pub overflow_step-c : goal.overflow_step-c
-overflow_step-c c = search walking
-
-pub loop-c-smaller : goal.loop-c-smaller
-loop-c-smaller c = search walking
+pub returns-then-place : goal.returns-then-place
+returns-then-place c =
+    let map = c.args.map.now in
+    let l : c.loop-c.c < c.args.n = omega (arith, length-take-le c.args.n map c.requires, c.loop-c-test.true) in
+    found_at _ _ _ (first_stop (is_free_of map) l c.loop-c.invariant.1 (is_free map _ (sym (get_or-take c.args.n map c.loop-c.c 0 l) ∙ c.if-place.true))) l
 
 pub loop-c-preserved : goal.loop-c-preserved
-loop-c-preserved c = search walking
+loop-c-preserved c =
+    let map = c.args.map.now in
+    let l : c.loop-c.c < c.args.n = omega (arith, length-take-le c.args.n map c.requires, c.loop-c-test.true) in (
+      omega (arith, l),
+      first_turn (is_free_of map) l c.loop-c.invariant.1 (is_taken map _ (λ e. c.if-place.false (get_or-take c.args.n map c.loop-c.c 0 l ∙ e))),
+    )
 
 pub returns : goal.returns
-returns c = search walking
+returns c =
+    let end : c.args.n ≤ c.loop-c.c = omega (arith, length-take-le c.args.n c.args.map.now c.requires, c.loop-c-test.false) in
+    found_none _ _ _ (first_end (is_free_of c.args.map.now) c.loop-c.invariant.0 end c.loop-c.invariant.1) (omega arith)

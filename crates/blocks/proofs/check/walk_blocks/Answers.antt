@@ -2,10 +2,9 @@
 use Rattle.blocks.proofs.WalkLaws.{walk_passed, walk_refused}
 use Rattle.blocks.proofs.check.walk_blocks.Goals as goal
 
-pub returns-in-Refused : goal.returns-in-Refused
-returns-in-Refused c =
-    walk_refused _ _ _ c.in-Refused.r _ _ c.requires (rw c.in-Refused.is at c.try_blocks-tried.ensures) c.mark_map.ensures
+pub returns-in-Err : goal.returns-in-Err
+returns-in-Err c =
+    walk_refused _ _ _ c.in-Err.refusal _ _ c.requires (rw c.in-Err.is at c.try_blocks.ensures) c.mark_map.ensures
 
 pub returns : goal.returns
-returns c =
-    walk_passed _ _ _ _ (rw c.in_default.is at c.try_blocks-tried.ensures)
+returns c = walk_passed _ _ _ _ (rw c.in_default.is at c.try_blocks.ensures)

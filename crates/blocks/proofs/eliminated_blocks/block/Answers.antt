@@ -4,9 +4,6 @@ use Rattle.blocks.proofs.AccessRules.{place_in_lem}
 use Rattle.blocks.proofs.AccessRules.{access}
 use Rattle.blocks.proofs.eliminated_blocks.block.Goals as goal
 
-pub block_place-place-requires : goal.block_place-place-requires
-block_place-place-requires c = search access
-
 pub overflow_add-to : goal.overflow_add-to
 overflow_add-to c = omega (arith, place_in_lem _ _ _ c.block_place-place.result c.block_place-place.ensures)
 
@@ -15,6 +12,3 @@ offset_bounds-values-from c = omega (arith, place_in_lem _ _ _ c.block_place-pla
 
 pub slice_bounds-result-end : goal.slice_bounds-result-end
 slice_bounds-result-end c = omega (arith, place_in_lem _ _ _ c.block_place-place.result c.block_place-place.ensures)
-
-pub returns : goal.returns
-returns c = search access

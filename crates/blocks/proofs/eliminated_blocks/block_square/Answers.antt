@@ -4,11 +4,5 @@ use native.Mathlib.Nat.{mul-le-mul}
 use Rattle.blocks.proofs.AccessRules.{access}
 use Rattle.blocks.proofs.eliminated_blocks.block_square.Goals as goal
 
-pub block_dof-dof-requires : goal.block_dof-dof-requires
-block_dof-dof-requires c = search access
-
 pub overflow_mul-result : goal.overflow_mul-result
 overflow_mul-result c = record { fits = omega (arith, mul-le-mul c.block_dof-dof.ensures.upper_bound c.block_dof-dof.ensures.upper_bound) }
-
-pub returns : goal.returns
-returns c = search access

@@ -1,31 +1,20 @@
 -- `blocks::eliminated_blocks::gather_from_jacobian` meets its contract. Assumes nothing.
+use Rattle.std.proofs.lemmas.Result.{err_from_is_err_and}
 use Rattle.blocks.specs.BlockValues.{gather_from_jacobian}
 use Rattle.blocks.proofs.ValueCalls.{values-refused, values-fit, values-done}
-use Rattle.blocks.proofs.AccessRules.{access}
 use Rattle.blocks.proofs.eliminated_blocks.gather_from_jacobian.Goals as goal
 
-pub check_values-checked-requires : goal.check_values-checked-requires
-check_values-checked-requires c = search access
-
-pub enum_known-checked : goal.enum_known-checked
-enum_known-checked c = search access
-
-pub returns-in-Refused : goal.returns-in-Refused
+pub returns-in_err-check_values : goal.returns-in_err-check_values
 unfolding gather_from_jacobian
-returns-in-Refused c =
-    let k = c.check_values-checked in
-    values-refused _ _ _ _ _ _ k.result _ k.ensures c.in-Refused.r _ _ c.in-Refused.is
-
-pub enum_told-1 : goal.enum_told-1
-enum_told-1 c = search access
+returns-in_err-check_values c =
+    let p = err_from_is_err_and c.from_residual.result c.from_residual.ensures.1 in
+    rw (p.1, p.2)
+    (values-refused _ _ _ _ _ _ c.check_values.result _ c.check_values.ensures _ _ _ c.in_err-check_values.was)
 
 pub gather_blocks-requires : goal.gather_blocks-requires
-gather_blocks-requires c =
-    let k = c.check_values-checked in
-    values-fit _ _ _ _ _ _ k.result _ k.ensures c.in_default.is
+gather_blocks-requires c = values-fit _ _ _ _ _ _ c.check_values.result _ c.check_values.ensures c.in_ok-check_values.was
 
 pub returns : goal.returns
 unfolding gather_from_jacobian
 returns c =
-    let k = c.check_values-checked in
-    values-done _ _ _ _ _ _ k.result _ k.ensures _ _ _ c.in_default.is c.gather_blocks.ensures
+    values-done _ _ _ _ _ _ c.check_values.result _ c.check_values.ensures _ _ _ c.in_ok-check_values.was c.gather_blocks.ensures

@@ -7,7 +7,3 @@ use Rattle.blocks.proofs.eliminated_blocks.squares_before.Given as goal
 abbrev pub invariant-loop-k : goal.invariant-loop-k
 invariant-loop-k l =
     (l.k ≤ l.b) × (l.sum ≤ l.most) × (l.sum ≡ squares_before l.elims l.k)
-
-abbrev pub decreases-loop-k : goal.decreases-loop-k
-decreases-loop-k l =
-    l.b - l.k

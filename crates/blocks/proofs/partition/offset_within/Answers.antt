@@ -5,12 +5,6 @@ use Rattle.blocks.proofs.LookupRules.{held_low, held_high}
 use Rattle.blocks.proofs.LookupRules.{lookups}
 use Rattle.blocks.proofs.partition.offset_within.Goals as goal
 
-pub overflow_add-b : goal.overflow_add-b
-overflow_add-b c = search lookups
-
-pub wide-requires : goal.wide-requires
-wide-requires c = search lookups
-
 pub overflow_sub-result : goal.overflow_sub-result
 overflow_sub-result c =
     omega (arith, held_low _ _ _ c.requires.held, c.wide.ensures.value)

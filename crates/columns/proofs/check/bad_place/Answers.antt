@@ -1,11 +1,7 @@
 -- `columns::check::bad_place` meets its contract: the walk is over the column's own part of the rows. Assumes nothing.
-use native.Mathlib.Omega.{arith}
-use Rattle.columns.proofs.CheckRules.{checking}
+use Rattle.std.proofs.Common.{arith}
 use Rattle.columns.proofs.ReaderLaws.{place_of_lem, place_in_lem}
 use Rattle.columns.proofs.check.bad_place.Goals as goal
-
-pub walk_column-requires : goal.walk_column-requires
-walk_column-requires c = search checking
 
 pub overflow_add-result : goal.overflow_add-result
 overflow_add-result c =

@@ -1,14 +1,11 @@
 -- `columns::check::bad_row` meets its contract. Assumes nothing.
-use Prim.Native.Nat.{◌-◌, ◌≤◌}
-use mathlib.Core.Path.{◌≡◌}
-use Rattle.columns.specs.Columns.{columns_of, column_bad, bad_column}
+use Rattle.std.proofs.Common.{◌≡◌, ◌≤◌}
 use Rattle.ground.specs.First.{first}
+use Rattle.columns.specs.Columns.{column_count, column_bad, bad_column}
+use Rattle.columns.specs.Lent.{seen}
 use Rattle.columns.proofs.check.bad_row.Given as goal
 
-abbrev pub invariant-loop-j : goal.invariant-loop-j
-invariant-loop-j l =
-    (l.j ≤ l.n) × (first (column_bad (columns_of l.nrows l.ptrs l.rows l.values)) l.j l.n ≡ bad_column (columns_of l.nrows l.ptrs l.rows l.values))
-
-abbrev pub decreases-loop-j : goal.decreases-loop-j
-decreases-loop-j l =
-    l.n - l.j
+abbrev pub invariant-loop-column : goal.invariant-loop-column
+invariant-loop-column l =
+    let m = seen l.columns in
+    (l.column ≤ column_count m) × (first (column_bad m) l.column (column_count m) ≡ bad_column m)

@@ -1,21 +1,18 @@
--- `columns::check::count_rises` meets its contract. Assumes nothing.
-use Rattle.columns.proofs.RiseLaws.{counting}
+-- `columns::check::count_rises` counts the rows that are gone and rise. Assumes nothing.
+use Rattle.std.proofs.Common.{refl, ◌∙◌, ◌-◌, arith, get_or, ltb}
+use Rattle.columns.specs.Rises.{row_rises}
+use Rattle.columns.proofs.CountLaws.{byte_bit, byte_most, count_turn, count-done}
+use Rattle.columns.proofs.RiseLaws.{rises_read}
 use Rattle.columns.proofs.check.count_rises.Goals as goal
 
-pub loop-p-init : goal.loop-p-init
-loop-p-init c = search counting
-
-pub row_rises-requires : goal.row_rises-requires
-row_rises-requires c = search counting
-
-pub bit-n-requires : goal.bit-n-requires
-bit-n-requires c = search counting
-
-pub overflow_add-n : goal.overflow_add-n
-overflow_add-n c = search counting
-
 pub loop-p-preserved : goal.loop-p-preserved
-loop-p-preserved c = search counting
+loop-p-preserved c =
+    let rows = c.args.rows.now in
+    let i = c.loop-p.invariant in
+    let rises = ltb (get_or rows (c.loop-p.p - 1) 0) (get_or rows c.loop-p.p 0) in (
+      omega (arith, i.0, c.from-n.ensures, byte_most rises),
+      count_turn (row_rises rows) _ _ _ rises c.loop-p-test.true i.1 (rises_read rows _) (c.from-n.ensures ∙ byte_bit rises) refl,
+    )
 
 pub returns : goal.returns
-returns c = search counting
+returns c = count-done (row_rises c.args.rows.now) _ c.loop-p-test.false c.loop-p.invariant.1

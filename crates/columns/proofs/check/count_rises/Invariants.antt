@@ -1,14 +1,6 @@
--- `columns::check::count_rises` meets its contract. Assumes nothing.
-use Prim.Native.Nat.{◌+◌, ◌-◌, ◌<◌}
-use lib.ListN.{length}
-use mathlib.Core.Path.{◌≡◌}
+use Rattle.std.proofs.Common.{◌≡◌, ◌+◌, ◌<◌, length}
 use Rattle.columns.specs.Rises.{count, row_rises}
 use Rattle.columns.proofs.check.count_rises.Given as goal
 
 abbrev pub invariant-loop-p : goal.invariant-loop-p
-invariant-loop-p l =
-    (l.n < l.p) × (l.n + count (row_rises l.rows) l.p (length l.rows) ≡ count (row_rises l.rows) 1 (length l.rows))
-
-abbrev pub decreases-loop-p : goal.decreases-loop-p
-decreases-loop-p l =
-    length l.rows - l.p
+invariant-loop-p l = (l.n < l.p) × (l.n + count (row_rises l.rows) l.p (length l.rows) ≡ count (row_rises l.rows) 1 (length l.rows))

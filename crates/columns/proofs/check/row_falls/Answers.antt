@@ -2,8 +2,5 @@
 use Rattle.columns.proofs.CheckRules.{checking}
 use Rattle.columns.proofs.check.row_falls.Goals as goal
 
-pub overflow_sub-result : goal.overflow_sub-result
-overflow_sub-result c = search checking
-
 pub returns : goal.returns
 returns c = search checking

@@ -1,16 +1,12 @@
--- `columns::check::some_pointer_falls` meets its contract. Assumes nothing.
-use Prim.Native.Nat.{◌-◌}
-use lib.ListN.{length}
-use mathlib.Core.Bool.{◌||◌}
-use mathlib.Core.Path.{◌≡◌}
-use Rattle.columns.specs.Columns.{falls}
+use Rattle.std.proofs.Common.{◌≡◌, ◌||◌, ◌-◌, length}
 use Rattle.ground.specs.First.{some}
+use Rattle.columns.specs.Columns.{falls}
+use Rattle.columns.proofs.WindowLaws.{gone, IsRest}
 use Rattle.columns.proofs.check.some_pointer_falls.Given as goal
 
-abbrev pub invariant-loop-j : goal.invariant-loop-j
-invariant-loop-j l =
-    (l.bad || some (falls l.ptrs) l.j l.n) ≡ some (falls l.ptrs) 0 (length l.ptrs - 1)
-
-abbrev pub decreases-loop-j : goal.decreases-loop-j
-decreases-loop-j l =
-    l.n - l.j
+abbrev pub invariant-loop-before : goal.invariant-loop-before
+invariant-loop-before l =
+    (goal.iterator-loop-before).can_next l.before-iterator
+    × (goal.iterator-loop-before).is_finite l.before-iterator
+    × IsRest l.ptrs l.before-iterator.parts.rest.now
+    × ((l.bad || some (falls l.ptrs) (gone l.ptrs l.before-iterator.parts.rest.now) (length l.ptrs - 1)) ≡ some (falls l.ptrs) 0 (length l.ptrs - 1))

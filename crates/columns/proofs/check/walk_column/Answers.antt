@@ -1,46 +1,44 @@
--- `columns::check::walk_column` meets its contract: each turn's facts are those of `WalkedTo`. Assumes nothing.
-use Rattle.std.proofs.Common.{◌≡◌, ◌<◌, ◌≤◌, ◌^◌, ℕ, List, true, false, length, refl, arith, lit<}
+-- `columns::check::walk_column` walks while nothing is bad, so it stops at the first bad row or at the end. Assumes nothing.
+use Rattle.std.proofs.Common.{◌≡◌, ◌+◌, ap, sym, ◌∙◌, arith, refl, length, drop}
 use Rattle.ground.specs.First.{first}
+use Rattle.ground.proofs.FirstLaws.{first_turn, first_stop, first_end}
 use Rattle.columns.specs.Columns.{row_bad}
-use Rattle.columns.specs.Reader.{stops_at, step_at, above_of}
-use Rattle.columns.proofs.ReaderLaws.{least_at, least_first, WalkedTo, walk_stops, walk_goes, walk_turn}
+use Rattle.columns.proofs.PartLaws.{next_inside, next_is, next_rest, none_left}
+use Rattle.columns.proofs.ReaderLaws.{least_first, least_next, row_is}
 use Rattle.columns.proofs.check.walk_column.Goals as goal
 
--- what a turn knows
-abbrev known : (nrows : ℕ) (rows : List ℕ) (at least : ℕ) → least < 2 ^ 64 → at ≤ length rows → least ≡ least_at rows at
-    → first (row_bad nrows rows 0) at (length rows) ≡ first (row_bad nrows rows 0) 0 (length rows) → WalkedTo nrows rows
-known nrows rows at least f h e r = record { at = at; least = least; fits = f; inside = h; floor = e; rest = r }
+pub loop-at-init : goal.loop-at-init
+loop-at-init c =
+    let e = c.into_iter-at-iterator.ensures.into_iter_gives in
+    let iter = ap (λ i. i.iter) e ∙ c.enumerate-at-items.ensures.source in
+    let at = ap (λ i. i.count) e ∙ c.enumerate-at-items.ensures.count in
+    let r = c.reader.ensures in
+    (rw (iter, r.0, r.1, at), rw at (omega arith), rw at (least_first c.args.rows.now), rw at)
 
-pub loop-step-init : goal.loop-step-init
-loop-step-init c =
-    let e : c.reader-r.result.rows.now ≡ c.args.rows.now = rw c.reader-r.ensures.0 refl in
-    let z : 0 ≡ c.reader-r.result.at = rw c.reader-r.ensures.1 refl in
-    (e, lit< tt, omega arith, rw (← z) (least_first c.args.rows.now), rw (← z) refl)
+pub returns-then-row_bad : goal.returns-then-row_bad
+returns-then-row_bad c =
+    let rows = c.args.rows.now in
+    let i = c.loop-at.invariant in
+    let s = c.in-Some.ensures.steps in
+    let e = sym i.0 ∙ s.0 in
+    let t = sym (row_is c.args.nrows rows c.loop-at.at-iterator.count) ∙ rw (← (next_is rows _ _ _ 0 e), ← i.2, ← c.wide-row.ensures.value) (sym c.if-row_bad.ensures) in
+    s.1 ∙ first_stop (row_bad c.args.nrows rows 0) (next_inside rows _ _ _ e) i.3 t
 
-pub returns-then-stops : goal.returns-then-stops
-returns-then-stops c =
-    let i = c.loop-step.invariant in
-    let e : stops_at c.args.nrows c.loop-step.least (step_at c.args.rows.now c.loop-step.r.at) ≡ true = cc in
-    walk_stops _ _ (known c.args.nrows c.args.rows.now c.loop-step.r.at c.loop-step.least i.1 i.2 i.3 i.4) e
+pub loop-at-preserved : goal.loop-at-preserved
+loop-at-preserved c =
+    let rows = c.args.rows.now in
+    let i = c.loop-at.invariant in
+    let s = c.in-Some.ensures.steps in
+    let e = sym i.0 ∙ s.0 in
+    let l = next_inside rows _ _ _ e in
+    let t = sym (row_is c.args.nrows rows c.loop-at.at-iterator.count) ∙ rw (← (next_is rows _ _ _ 0 e), ← i.2, ← c.wide-row.ensures.value) (sym c.if-row_bad.ensures) in (
+      next_rest rows _ _ _ e ∙ ap (λ k. drop k rows) (sym s.2),
+      omega (arith, s.2, l),
+      rw (c.wide-row.ensures.value, s.2, next_is rows _ _ _ 0 e) (least_next rows c.loop-at.at-iterator.count),
+      rw s.2 (first_turn (row_bad c.args.nrows rows 0) l i.3 t),
+    )
 
-pub moved-r-requires : goal.moved-r-requires
-moved-r-requires c =
-    let i = c.loop-step.invariant in
-    let e : stops_at c.args.nrows c.loop-step.least (step_at c.args.rows.now c.loop-step.r.at) ≡ false = cc in
-    rw i.0 (walk_goes _ _ (known c.args.nrows c.args.rows.now c.loop-step.r.at c.loop-step.least i.1 i.2 i.3 i.4) e)
-
-pub loop-step-smaller : goal.loop-step-smaller
-loop-step-smaller c =
-    let i = c.loop-step.invariant in
-    let e : stops_at c.args.nrows c.loop-step.least (step_at c.args.rows.now c.loop-step.r.at) ≡ false = cc in
-    omega (arith, c.moved-r.ensures, walk_goes _ _ (known c.args.nrows c.args.rows.now c.loop-step.r.at c.loop-step.least i.1 i.2 i.3 i.4) e)
-
-pub loop-step-preserved : goal.loop-step-preserved
-loop-step-preserved c =
-    let i = c.loop-step.invariant in
-    let e : stops_at c.args.nrows c.loop-step.least (step_at c.args.rows.now c.loop-step.r.at) ≡ false = cc in
-    let a : c.above-least.result ≡ above_of (step_at c.args.rows.now c.loop-step.r.at) = cc in
-    let f : c.above-least.result < 2 ^ 64 = omega arith in
-    let m : c.moved-r.result.rows.now ≡ c.args.rows.now = rw c.moved-r.ensures.0 i.0 in
-    let t = walk_turn _ _ (known c.args.nrows c.args.rows.now c.loop-step.r.at c.loop-step.least i.1 i.2 i.3 i.4) c.above-least.result f a e in
-    (m, f, rw c.moved-r.ensures.1 t.inside, rw c.moved-r.ensures.1 t.floor, rw c.moved-r.ensures.1 t.rest)
+pub returns : goal.returns
+returns c =
+    let i = c.loop-at.invariant in
+    first_end (row_bad c.args.nrows c.args.rows.now 0) i.1 (none_left _ _ (sym i.0 ∙ c.in-None.ensures.steps.0.0)) i.3

@@ -1,16 +1,10 @@
--- `columns::jacobian_ops::check_lent` meets its contract. Assumes nothing.
-use Rattle.columns.proofs.CallLaws.{told_by}
-use Rattle.columns.proofs.Rules.{rules}
+use Rattle.std.proofs.lemmas.Result.{err_from_is_err_and}
+use Rattle.columns.proofs.CallLaws.{first_refused, then_told}
 use Rattle.columns.proofs.jacobian_ops.check_lent.Goals as goal
 
-pub check_columns-requires : goal.check_columns-requires
-check_columns-requires c = search rules
-
-pub wrong_length-requires : goal.wrong_length-requires
-wrong_length-requires c = search rules
-
-pub or_else-requires : goal.or_else-requires
-or_else-requires c = search rules
+pub returns-in_err-check_columns : goal.returns-in_err-check_columns
+returns-in_err-check_columns c =
+    let p = err_from_is_err_and c.from_residual.result c.from_residual.ensures.1 in rw (p.1, p.2) (first_refused _ _ _ _ c.check_columns.ensures c.in_err-check_columns.was)
 
 pub returns : goal.returns
-returns c = told_by c.or_else.result c.check_columns.result c.wrong_length.result _ _ c.or_else.ensures c.check_columns.ensures c.wrong_length.ensures
+returns c = then_told _ _ _ _ _ c.check_columns.ensures c.in_ok-check_columns.was c.wrong_length.ensures

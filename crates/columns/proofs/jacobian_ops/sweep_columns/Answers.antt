@@ -5,9 +5,6 @@ use Rattle.columns.proofs.jacobian_ops.sweep_columns.Goals as goal
 pub loop-j-init : goal.loop-j-init
 loop-j-init c = (search rules, rw c.requires.places)
 
-pub sweep_column-requires : goal.sweep_column-requires
-sweep_column-requires c = search rules
-
 pub loop-j-preserved : goal.loop-j-preserved
 loop-j-preserved c = search rules
 

@@ -1,14 +1,14 @@
--- `columns::refusal::bad_pair` meets its contract. Assumes nothing.
-use Prim.Native.Nat.{◌-◌, ◌≤◌}
-use mathlib.Core.Path.{◌≡◌}
-use Rattle.columns.specs.Lengths.{pair_bad, bad_pair}
+-- `columns::refusal::bad_pair` looks for the first pair that misfits. Assumes nothing.
+use Rattle.std.proofs.Common.{◌≡◌, ◌≤◌, ◌+◌, ◌/◌, length, drop}
 use Rattle.ground.specs.First.{first}
+use Rattle.columns.specs.Lengths.{pair_bad}
 use Rattle.columns.proofs.refusal.bad_pair.Given as goal
 
 abbrev pub invariant-loop-k : goal.invariant-loop-k
 invariant-loop-k l =
-    (l.k ≤ l.n) × (first (pair_bad l.exact l.pairs) l.k l.n ≡ bad_pair l.exact l.pairs)
-
-abbrev pub decreases-loop-k : goal.decreases-loop-k
-decreases-loop-k l =
-    l.n - l.k
+    let k = l.k-iterator.count in
+    let bad = pair_bad l.exact l.pairs in
+    (l.k-iterator.iter.size ≡ 2)
+    × (l.k-iterator.iter.rest.now ≡ drop (k + k) l.pairs)
+    × (k ≤ length l.pairs / 2)
+    × (first bad k (length l.pairs / 2) ≡ first bad 0 (length l.pairs / 2))

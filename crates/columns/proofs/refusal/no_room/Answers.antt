@@ -1,18 +1,9 @@
 -- `columns::refusal::no_room` meets its contract. Assumes nothing.
-use Rattle.columns.proofs.CheckRules.{checking}
+use Rattle.columns.proofs.CheckRules.{pairs_refused, pairs_done}
 use Rattle.columns.proofs.refusal.no_room.Goals as goal
 
-pub bad_pair-k-requires : goal.bad_pair-k-requires
-bad_pair-k-requires c = search checking
+pub returns-in-Some : goal.returns-in-Some
+returns-in-Some c = pairs_refused _ _ _ _ c.bad_pair.ensures _ _ c.in-Some.is
 
-pub overflow_add-result : goal.overflow_add-result
-overflow_add-result c = search checking
-
-pub overflow_add-result-then-k-pairs : goal.overflow_add-result-then-k-pairs
-overflow_add-result-then-k-pairs c = search checking
-
-pub returns-then-k-pairs : goal.returns-then-k-pairs
-returns-then-k-pairs c = search checking
-
-pub returns : goal.returns
-returns c = search checking
+pub returns-in-None : goal.returns-in-None
+returns-in-None c = pairs_done _ _ _ _ c.bad_pair.ensures c.in-None.is

@@ -1,17 +1,14 @@
--- `columns::unchecked::land_all` meets its contract. Assumes nothing.
-use Prim.Native.Nat.{◌-◌, ◌≤◌}
-use lib.ListN.{length}
-use mathlib.Core.Path.{◌≡◌}
-use Rattle.columns.specs.JacobianOps.{landing}
-use Rattle.columns.specs.Sums.{landed, swept_on}
+use Rattle.std.proofs.Common.{◌≡◌, ◌-◌, length, drop, take}
 use Rattle.ground.specs.Fold.{folded}
 use Rattle.ground.specs.Gather.{gather}
+use Rattle.columns.specs.JacobianOps.{landing}
+use Rattle.columns.specs.Sums.{landed, swept_on}
+use Rattle.columns.proofs.PairWalkLaws.{Both}
 use Rattle.columns.proofs.unchecked.land_all.Given as goal
 
-abbrev pub invariant-loop-p : goal.invariant-loop-p
-invariant-loop-p l =
-    (l.lo ≤ l.p) × (length l.y ≡ length l.initial.y) × (folded (landed l.sign) l.y (gather (landing l.rows l.values l.x) l.p l.hi) ≡ swept_on l.sign l.initial.y (gather (landing l.rows l.values l.x) l.lo l.hi))
-
-abbrev pub decreases-loop-p : goal.decreases-loop-p
-decreases-loop-p l =
-    l.hi - l.p
+abbrev pub invariant-loop-row : goal.invariant-loop-row
+invariant-loop-row l =
+    let f = landing l.rows l.values l.x in
+    Both l.rows l.values l.lo l.hi l.row-iterator.a.rest.now l.row-iterator.b.rest.now
+    × (length l.y ≡ length l.initial.y)
+    × (folded (landed l.sign) l.y (gather f (l.hi - length l.row-iterator.a.rest.now) l.hi) ≡ swept_on l.sign l.initial.y (gather f l.lo l.hi))

@@ -4,25 +4,13 @@ use Rattle.columns.specs.Unchecked.{merge_step}
 use Rattle.columns.proofs.Rules.{rules}
 use Rattle.columns.proofs.unchecked.merge_step.Goals as goal
 
-pub overflow_add-result : goal.overflow_add-result
-overflow_add-result c = search rules
-
 pub returns-then-row_a-row_b : goal.returns-then-row_a-row_b
 unfolding merge_step
 returns-then-row_a-row_b c = rw (lt-ltb _ _ c.if-row_a-row_b.true)
 
-pub overflow_add-result-then-row_b-row_a : goal.overflow_add-result-then-row_b-row_a
-overflow_add-result-then-row_b-row_a c = search rules
-
 pub returns-then-row_b-row_a : goal.returns-then-row_b-row_a
 unfolding merge_step
 returns-then-row_b-row_a c = rw (le-ltb _ _ c.if-row_a-row_b.false, lt-ltb _ _ c.if-row_b-row_a.true)
-
-pub overflow_add-result-2 : goal.overflow_add-result-2
-overflow_add-result-2 c = search rules
-
-pub overflow_add-result-3 : goal.overflow_add-result-3
-overflow_add-result-3 c = search rules
 
 pub returns : goal.returns
 unfolding merge_step

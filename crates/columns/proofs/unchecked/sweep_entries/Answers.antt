@@ -5,8 +5,5 @@ use Rattle.columns.proofs.unchecked.sweep_entries.Goals as goal
 pub returns-then-x : goal.returns-then-x
 returns-then-x c = search rules
 
-pub land_all-requires : goal.land_all-requires
-land_all-requires c = search rules
-
 pub returns : goal.returns
 returns c = search rules

@@ -11,8 +11,8 @@ use Rattle.hall.proofs.cases.case1.Goals as goal
 pub returns : goal.returns
 returns c =
     let e = c.plan_hall-p.ensures ∙ hall_table.plan in
-    both (both (both (both (list_held owners [] c.same.ensures (ap (λ (o : Outcome). o.left.owners) e))
-    (list_held row_lists.list (replicate 1 7) c.same-2.ensures (ap (λ (o : Outcome). o.left.row_lists.list) e)))
-    (list_held row_lists.starts [] c.same-3.ensures (ap (λ (o : Outcome). o.left.row_lists.starts) e)))
-    (list_held visible.list (replicate 6 7) c.same-4.ensures (ap (λ (o : Outcome). o.left.visible.list) e)))
-    (list_held visible.starts [] c.same-5.ensures (ap (λ (o : Outcome). o.left.visible.starts) e))
+    both (both (both (both (list_held owners [] c.starts_with.ensures.value (ap (λ (o : Outcome). o.left.owners) e))
+    (list_held row_lists.list (replicate 1 7) c.starts_with-2.ensures.value (ap (λ (o : Outcome). o.left.row_lists.list) e)))
+    (list_held row_lists.starts [] c.starts_with-3.ensures.value (ap (λ (o : Outcome). o.left.row_lists.starts) e)))
+    (list_held visible.list (replicate 6 7) c.starts_with-4.ensures.value (ap (λ (o : Outcome). o.left.visible.list) e)))
+    (list_held visible.starts [] c.starts_with-5.ensures.value (ap (λ (o : Outcome). o.left.visible.starts) e))

@@ -9,4 +9,4 @@ use Rattle.hall.proofs.cases.case6.Goals as goal
 
 pub returns : goal.returns
 returns c =
-    numbers-held (tell 10 (1 ∷ 0 ∷ [])) c.are.ensures c.plan_numbers.ensures (ap (λ (o : Outcome). o.told) (c.plan_hall-p.ensures ∙ hall_table.connected))
+    numbers-held (tell 10 (1 ∷ 0 ∷ [])) c.eq.ensures c.from.ensures (ap (λ (o : Outcome). o.told) (c.plan_hall-p.ensures ∙ hall_table.connected))

@@ -10,4 +10,4 @@ use Rattle.hall.proofs.cases.case8.Goals as goal
 pub returns : goal.returns
 unfolding of_int of_bits
 returns c =
-    numbers-held (tell 3 (0 ∷ 2 ∷ [])) c.are.ensures c.answer_numbers.ensures (c.check_columns.ensures ∙ hall_table.bad_row)
+    numbers-held (tell 3 (0 ∷ 2 ∷ [])) c.eq.ensures c.from.ensures (c.check_columns.ensures ∙ hall_table.bad_row)

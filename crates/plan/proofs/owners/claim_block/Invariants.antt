@@ -10,8 +10,4 @@ use Rattle.plan.proofs.owners.claim_block.Given as goal
 
 abbrev pub invariant-loop-i : goal.invariant-loop-i
 invariant-loop-i l =
-    (length l.owners ≡ length l.initial.owners) × (claimed l.owners (gather (local_column l.ptrs l.rows l.block l.first) l.i l.dof) ≡ claimed l.initial.owners (block_entries l.ptrs l.rows l.elims l.b))
-
-abbrev pub decreases-loop-i : goal.decreases-loop-i
-decreases-loop-i l =
-    l.dof - l.i
+    (length l.owners ≡ length l.initial.owners) × (claimed l.owners (gather (local_column l.columns.ptrs.now l.columns.rows.now l.block l.first) l.i l.dof) ≡ claimed l.initial.owners (block_entries l.columns.ptrs.now l.columns.rows.now l.elims l.b))

@@ -1,24 +1,13 @@
 -- `owners::claim_blocks` meets its contract. Assumes nothing.
-use Rattle.plan.proofs.OwnerRules.{claiming}
+use Rattle.plan.proofs.OwnerRules.{claiming, claims_stop}
+use Rattle.std.proofs.lemmas.Result.{err_from_is_err_and}
 use Rattle.plan.proofs.owners.claim_blocks.Goals as goal
 
-pub loop-b-init : goal.loop-b-init
-loop-b-init c = search claiming
+pub claim_block-requires : goal.claim_block-requires
+claim_block-requires c = search claiming
 
-pub claim_block-t-requires : goal.claim_block-t-requires
-claim_block-t-requires c = search claiming
-
-pub enum_known-t : goal.enum_known-t
-enum_known-t c = search claiming
-
-pub returns-in-Refused : goal.returns-in-Refused
-returns-in-Refused c = search claiming
-
-pub enum_told-1 : goal.enum_told-1
-enum_told-1 c = search claiming
-
-pub loop-b-preserved : goal.loop-b-preserved
-loop-b-preserved c = search claiming
-
-pub returns : goal.returns
-returns c = search claiming
+pub returns-in_err-claim_block : goal.returns-in_err-claim_block
+returns-in_err-claim_block c =
+    let p = err_from_is_err_and c.from_residual.result c.from_residual.ensures.1 in
+    rw (p.1, p.2)
+    (claims_stop _ _ _ _ _ _ _ c.loop-b-test.true c.loop-b.invariant.1 c.claim_block.ensures _ c.in_err-claim_block.was)

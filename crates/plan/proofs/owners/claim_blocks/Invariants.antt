@@ -10,8 +10,4 @@ use Rattle.plan.proofs.owners.claim_blocks.Given as goal
 
 abbrev pub invariant-loop-b : goal.invariant-loop-b
 invariant-loop-b l =
-    (length l.owners ≡ length l.initial.owners) × (claimed l.owners (gather (block_entries l.ptrs l.rows l.elims) l.b l.count) ≡ claimed l.initial.owners (gather (block_entries l.ptrs l.rows l.elims) 0 (block_count l.elims)))
-
-abbrev pub decreases-loop-b : goal.decreases-loop-b
-decreases-loop-b l =
-    l.count - l.b
+    (length l.owners ≡ length l.initial.owners) × (claimed l.owners (gather (block_entries l.columns.ptrs.now l.columns.rows.now l.elims) l.b l.count) ≡ claimed l.initial.owners (gather (block_entries l.columns.ptrs.now l.columns.rows.now l.elims) 0 (block_count l.elims)))

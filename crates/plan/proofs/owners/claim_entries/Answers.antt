@@ -1,24 +1,10 @@
 -- `owners::claim_entries` meets its contract. Assumes nothing.
-use Rattle.plan.proofs.OwnerRules.{claiming}
+use Rattle.plan.proofs.OwnerRules.{claims_stop}
+use Rattle.std.proofs.lemmas.Result.{err_from_is_err_and}
 use Rattle.plan.proofs.owners.claim_entries.Goals as goal
 
-pub loop-p-init : goal.loop-p-init
-loop-p-init c = search claiming
-
-pub claim_entry-t-requires : goal.claim_entry-t-requires
-claim_entry-t-requires c = search claiming
-
-pub enum_known-t : goal.enum_known-t
-enum_known-t c = search claiming
-
-pub returns-in-Refused : goal.returns-in-Refused
-returns-in-Refused c = search claiming
-
-pub enum_told-1 : goal.enum_told-1
-enum_told-1 c = search claiming
-
-pub loop-p-preserved : goal.loop-p-preserved
-loop-p-preserved c = search claiming
-
-pub returns : goal.returns
-returns c = search claiming
+pub returns-in_err-claim_entry : goal.returns-in_err-claim_entry
+returns-in_err-claim_entry c =
+    let p = err_from_is_err_and c.from_residual.result c.from_residual.ensures.1 in
+    rw (p.1, p.2)
+    (claims_stop _ _ _ _ _ _ _ c.loop-p-test.true c.loop-p.invariant.2 c.claim_entry.ensures _ c.in_err-claim_entry.was)

@@ -10,7 +10,3 @@ use Rattle.plan.proofs.owners.claim_entries.Given as goal
 abbrev pub invariant-loop-p : goal.invariant-loop-p
 invariant-loop-p l =
     (l.lo ≤ l.p) × (length l.owners ≡ length l.initial.owners) × (claimed l.owners (gather (entry_at l.rows l.b) l.p l.hi) ≡ claimed l.initial.owners (gather (entry_at l.rows l.b) l.lo l.hi))
-
-abbrev pub decreases-loop-p : goal.decreases-loop-p
-decreases-loop-p l =
-    l.hi - l.p

@@ -1,192 +1,122 @@
--- `structure::plan` meets its contract: what each check has shown is said once, at the state that follows it. Assumes nothing.
-use mathlib.Core.Path.{refl, ◌∙◌}
-use Rattle.columns.specs.Columns.{columns_of}
-use Rattle.columns.proofs.CallLaws.{told-refused}
+-- `structure::plan` meets its contract: what each check has shown is said once, at the step past it. Assumes nothing.
+use mathlib.Core.Path.{◌≡◌, refl}
+use mathlib.Core.List.{◌++◌}
+use lib.ListN.{drop}
+use Rattle.std.proofs.lemmas.Result.{err_from_is_err_and}
+use Rattle.columns.specs.Refusals.{done}
+use Rattle.columns.specs.Lent.{seen}
+use Rattle.columns.proofs.CallLaws.{told-refused, told-done}
+use Rattle.blocks.specs.Claims.{parts_told}
+use Rattle.plan.specs.Owners.{owner_list}
+use Rattle.plan.specs.Spans.{chunk_told}
 use Rattle.plan.specs.Plan.{buffers}
-use Rattle.plan.proofs.PlanCalls.{early_room, map-room, plan_ready, room-is, kept-columns, elims-columns, elims-blocks, plan-owners, plan-lists, plan-visible, visible-left, kept_spans, elims-spans, plan_parts, plan-room, plan_walk, mapped_is, plan-connected, owners-is, plan_all, listed-count, listed-list, numbered_list, span_count_lem, span_lists, rows-listed, plan_of_lem, parts_fact, room_fact, walk_fact, walk_refused_fact}
+use Rattle.plan.proofs.PlanCalls.{Early, Walked, early_room, map-room, plan_ready, room-is, kept-columns, elims-columns, elims-blocks, plan-owners, plan-lists, plan-visible, visible-left, kept_spans, elims-spans, plan_parts, plan-room, plan_walk, mapped_is, plan-connected, owners-is, plan_all, listed-count, listed-list, numbered_list, span_count_lem, span_lists, rows-listed, plan_of_lem}
+use Rattle.plan.proofs.structure.plan.Goals.{In_ok-check_parts, In_ok-check_room, In_ok-walk_blocks, In_default}
 use Rattle.plan.proofs.structure.plan.Goals as goal
 
-pub returns-in-Refused : goal.returns-in-Refused
-returns-in-Refused c =
-    plan_parts _ _ _ _ _ c.in-Refused.r (told-refused c.check_parts-parts.result c.in-Refused.r _ (rw c.check_chunk.ensures at c.check_parts-parts.ensures) c.in-Refused.is)
+-- 1 to 5 passed, then 6, then 7 to 9, then 10
 
-pub check_room-room-requires : goal.check_room-room-requires
-check_room-room-requires c =
-    let m = columns_of c.args.nrows c.args.ptrs.now c.args.rows.now c.args.values.now in
-    let kept = c.args.kept.now in
-    let elims = c.args.elims.now in
-    let len = c.args.chunk_len in
-    let parts = parts_fact c.check_chunk.result c.check_parts-parts.result m kept elims len c.check_chunk.ensures c.check_parts-parts.ensures c.in_default.is in
-    early_room m kept elims len parts
+parts : (c : In_ok-check_parts) → done ≡ parts_told (seen c.args.columns) c.args.sides.kept.now c.args.sides.elims.now (chunk_told c.args.chunk_len)
+parts c = told-done _ _ _ (rw c.check_chunk.ensures at c.check_parts.ensures) c.in_ok-check_parts.was
 
-pub returns-in-Refused-room : goal.returns-in-Refused-room
-returns-in-Refused-room c =
-    let m = columns_of c.args.nrows c.args.ptrs.now c.args.rows.now c.args.values.now in
-    let kept = c.args.kept.now in
-    let elims = c.args.elims.now in
-    let len = c.args.chunk_len in
-    let lent = buffers c.args.map.now c.args.kept_cols.now c.args.elims_cols.now c.args.elims_blocks.now c.args.owners.now c.args.row_list.now c.args.row_starts.now c.args.visible.now c.args.visible_starts.now c.args.kept_starts.now c.args.kept_lo.now c.args.kept_hi.now c.args.kept_local.now c.args.elims_starts.now c.args.elims_lo.now c.args.elims_hi.now c.args.elims_local.now in
-    let parts = parts_fact c.check_chunk.result c.check_parts-parts.result m kept elims len c.check_chunk.ensures c.check_parts-parts.ensures c.in_default.is in
-    plan-room m kept elims len lent parts c.in-Refused-room.r (told-refused c.check_room-room.result c.in-Refused-room.r _ (room-is m kept elims len lent _ _ c.column_count-n.ensures c.check_room-room.ensures) c.in-Refused-room.is)
+early : (c : In_ok-check_room) → Early (seen c.args.columns) c.args.sides.kept.now c.args.sides.elims.now c.args.chunk_len
+    (buffers c.args.map.now c.args.kept_cols.now c.args.elims_cols.now c.args.elims_blocks.now c.args.owners.now c.args.row_list.now c.args.row_starts.now
+    c.args.visible.now c.args.visible_starts.now
+    c.args.kept_starts.now c.args.kept_lo.now c.args.kept_hi.now c.args.kept_local.now
+    c.args.elims_starts.now c.args.elims_lo.now c.args.elims_hi.now c.args.elims_local.now)
+early c = record {
+  parts = told-done _ _ _ (rw c.check_chunk.ensures at c.check_parts.ensures) c.in_ok-check_parts.was;
+  fits = told-done _ _ _ (room-is _ _ _ _ _ _ c.check_room.ensures) c.in_ok-check_room.was;
+}
+
+walked : (c : In_ok-walk_blocks) → Walked (seen c.args.columns) c.args.sides.kept.now c.args.sides.elims.now c.args.chunk_len
+    (buffers c.args.map.now c.args.kept_cols.now c.args.elims_cols.now c.args.elims_blocks.now c.args.owners.now c.args.row_list.now c.args.row_starts.now
+    c.args.visible.now c.args.visible_starts.now
+    c.args.kept_starts.now c.args.kept_lo.now c.args.kept_hi.now c.args.kept_local.now
+    c.args.elims_starts.now c.args.elims_lo.now c.args.elims_hi.now c.args.elims_local.now)
+    c.walk_blocks.new.map
+walked c = record {
+  early = record {
+    parts = told-done _ _ _ (rw c.check_chunk.ensures at c.check_parts.ensures) c.in_ok-check_parts.was;
+    fits = told-done _ _ _ (room-is _ _ _ _ _ _ c.check_room.ensures) c.in_ok-check_room.was;
+  };
+  walk = rw (c.count-n.ensures, c.in_ok-walk_blocks.was) at c.walk_blocks.ensures;
+}
+
+pub returns-in_err-check_parts : goal.returns-in_err-check_parts
+returns-in_err-check_parts c =
+    let p = err_from_is_err_and c.from_residual.result c.from_residual.ensures.1 in
+    rw (p.1, p.2)
+    (plan_parts _ _ _ _ _ _ (told-refused _ _ _ (rw c.check_chunk.ensures at c.check_parts.ensures) c.in_err-check_parts.was))
+
+pub check_room-requires : goal.check_room-requires
+check_room-requires c = early_room _ _ _ _ (parts (goal.at.check_room-requires c).In_ok-check_parts)
+
+pub returns-in_err-check_room : goal.returns-in_err-check_room
+returns-in_err-check_room c =
+    let p = err_from_is_err_and c.from_residual-in_err-check_room.result c.from_residual-in_err-check_room.ensures.1 in
+    rw (p.1, p.2)
+    (plan-room _ _ _ _ _ _ (parts (goal.at.returns-in_err-check_room c).In_ok-check_parts)
+    (told-refused _ _ _ (room-is _ _ _ _ _ _ c.check_room.ensures) c.in_err-check_room.was))
 
 pub walk_blocks-requires : goal.walk_blocks-requires
-walk_blocks-requires c =
-    let m = columns_of c.args.nrows c.args.ptrs.now c.args.rows.now c.args.values.now in
-    let kept = c.args.kept.now in
-    let elims = c.args.elims.now in
-    let len = c.args.chunk_len in
-    let lent = buffers c.args.map.now c.args.kept_cols.now c.args.elims_cols.now c.args.elims_blocks.now c.args.owners.now c.args.row_list.now c.args.row_starts.now c.args.visible.now c.args.visible_starts.now c.args.kept_starts.now c.args.kept_lo.now c.args.kept_hi.now c.args.kept_local.now c.args.elims_starts.now c.args.elims_lo.now c.args.elims_hi.now c.args.elims_local.now in
-    let parts = parts_fact c.check_chunk.result c.check_parts-parts.result m kept elims len c.check_chunk.ensures c.check_parts-parts.ensures c.in_default.is in
-    let roomy = room_fact c.check_room-room.result m kept elims len lent _ c.column_count-n.ensures c.check_room-room.ensures c.in_default-room.is in
-    rw c.column_count-n.ensures (map-room m kept elims len parts lent roomy)
+walk_blocks-requires c = rw c.count-n.ensures (map-room (early (goal.at.walk_blocks-requires c).In_ok-check_room))
 
-pub returns-in-Refused-walk_blocks : goal.returns-in-Refused-walk_blocks
-returns-in-Refused-walk_blocks c =
-    let m = columns_of c.args.nrows c.args.ptrs.now c.args.rows.now c.args.values.now in
-    let kept = c.args.kept.now in
-    let elims = c.args.elims.now in
-    let len = c.args.chunk_len in
-    let lent = buffers c.args.map.now c.args.kept_cols.now c.args.elims_cols.now c.args.elims_blocks.now c.args.owners.now c.args.row_list.now c.args.row_starts.now c.args.visible.now c.args.visible_starts.now c.args.kept_starts.now c.args.kept_lo.now c.args.kept_hi.now c.args.kept_local.now c.args.elims_starts.now c.args.elims_lo.now c.args.elims_hi.now c.args.elims_local.now in
-    let parts = parts_fact c.check_chunk.result c.check_parts-parts.result m kept elims len c.check_chunk.ensures c.check_parts-parts.ensures c.in_default.is in
-    let roomy = room_fact c.check_room-room.result m kept elims len lent _ c.column_count-n.ensures c.check_room-room.ensures c.in_default-room.is in
-    plan_walk m kept elims len lent parts roomy c.in-Refused-walk_blocks.r _ (walk_refused_fact c.walk_blocks.result kept elims _ _ _ _ c.column_count-n.ensures c.walk_blocks.ensures c.in-Refused-walk_blocks.r c.in-Refused-walk_blocks.is)
+pub returns-in_err-walk_blocks : goal.returns-in_err-walk_blocks
+returns-in_err-walk_blocks c =
+    let p = err_from_is_err_and c.from_residual-in_err-walk_blocks.result c.from_residual-in_err-walk_blocks.ensures.1 in
+    rw (p.1, p.2)
+    (plan_walk _ _ (early (goal.at.returns-in_err-walk_blocks c).In_ok-check_room)
+    (rw (c.count-n.ensures, c.in_err-walk_blocks.was) at c.walk_blocks.ensures))
 
 pub row_owners-requires : goal.row_owners-requires
-row_owners-requires c =
-    let lent = buffers c.args.map.now c.args.kept_cols.now c.args.elims_cols.now c.args.elims_blocks.now c.args.owners.now c.args.row_list.now c.args.row_starts.now c.args.visible.now c.args.visible_starts.now c.args.kept_starts.now c.args.kept_lo.now c.args.kept_hi.now c.args.kept_local.now c.args.elims_starts.now c.args.elims_lo.now c.args.elims_hi.now c.args.elims_local.now in
-    let m = columns_of c.args.nrows c.args.ptrs.now c.args.rows.now c.args.values.now in
-    let kept = c.args.kept.now in
-    let elims = c.args.elims.now in
-    let len = c.args.chunk_len in
-    let walked = walk_fact c.walk_blocks.result kept elims _ _ _ _ c.column_count-n.ensures c.walk_blocks.ensures c.in_default-walk_blocks.is in
-    let parts = parts_fact c.check_chunk.result c.check_parts-parts.result m kept elims len c.check_chunk.ensures c.check_parts-parts.ensures c.in_default.is in
-    let roomy = room_fact c.check_room-room.result m kept elims len lent _ c.column_count-n.ensures c.check_room-room.ensures c.in_default-room.is in
-    let ready = plan_ready m kept elims len parts lent roomy _ walked in
-    plan-owners _ _ _ _ lent ready
+row_owners-requires c = plan-owners (plan_ready (walked (goal.at.row_owners-requires c).In_ok-walk_blocks))
 
-pub shape_of-map-in-Refused-row_owners : goal.shape_of-map-in-Refused-row_owners
-shape_of-map-in-Refused-row_owners c = c.mark_map.auto.map ∙ c.walk_blocks.auto.map
-
-pub returns-in-Refused-row_owners : goal.returns-in-Refused-row_owners
-returns-in-Refused-row_owners c =
-    let m = columns_of c.args.nrows c.args.ptrs.now c.args.rows.now c.args.values.now in
-    let kept = c.args.kept.now in
-    let elims = c.args.elims.now in
-    let len = c.args.chunk_len in
-    let lent = buffers c.args.map.now c.args.kept_cols.now c.args.elims_cols.now c.args.elims_blocks.now c.args.owners.now c.args.row_list.now c.args.row_starts.now c.args.visible.now c.args.visible_starts.now c.args.kept_starts.now c.args.kept_lo.now c.args.kept_hi.now c.args.kept_local.now c.args.elims_starts.now c.args.elims_lo.now c.args.elims_hi.now c.args.elims_local.now in
-    let walked = walk_fact c.walk_blocks.result kept elims _ _ _ _ c.column_count-n.ensures c.walk_blocks.ensures c.in_default-walk_blocks.is in
-    let parts = parts_fact c.check_chunk.result c.check_parts-parts.result m kept elims len c.check_chunk.ensures c.check_parts-parts.ensures c.in_default.is in
-    let roomy = room_fact c.check_room-room.result m kept elims len lent _ c.column_count-n.ensures c.check_room-room.ensures c.in_default-room.is in
-    plan-connected m kept elims len lent parts roomy _ walked _ _ (rw c.in-Refused-row_owners.is at c.row_owners.ensures) c.in-Refused-row_owners.r _ refl (rw c.column_count-n.ensures at c.mark_map.ensures)
+pub returns-in-Err : goal.returns-in-Err
+returns-in-Err c =
+    plan-connected (walked (goal.at.returns-in-Err c).In_ok-walk_blocks) (rw c.in-Err.is at c.row_owners.ensures) c.in-Err.refusal _ refl
+    (rw c.count-n.ensures at c.mark_map.ensures)
 
 pub list_columns-kept_dof-requires : goal.list_columns-kept_dof-requires
-list_columns-kept_dof-requires c =
-    let m = columns_of c.args.nrows c.args.ptrs.now c.args.rows.now c.args.values.now in
-    let kept = c.args.kept.now in
-    let elims = c.args.elims.now in
-    let len = c.args.chunk_len in
-    let lent = buffers c.args.map.now c.args.kept_cols.now c.args.elims_cols.now c.args.elims_blocks.now c.args.owners.now c.args.row_list.now c.args.row_starts.now c.args.visible.now c.args.visible_starts.now c.args.kept_starts.now c.args.kept_lo.now c.args.kept_hi.now c.args.kept_local.now c.args.elims_starts.now c.args.elims_lo.now c.args.elims_hi.now c.args.elims_local.now in
-    let walked = walk_fact c.walk_blocks.result kept elims _ _ _ _ c.column_count-n.ensures c.walk_blocks.ensures c.in_default-walk_blocks.is in
-    let parts = parts_fact c.check_chunk.result c.check_parts-parts.result m kept elims len c.check_chunk.ensures c.check_parts-parts.ensures c.in_default.is in
-    let roomy = room_fact c.check_room-room.result m kept elims len lent _ c.column_count-n.ensures c.check_room-room.ensures c.in_default-room.is in
-    let ready = plan_ready m kept elims len parts lent roomy _ walked in
-    kept-columns _ _ _ _ _ ready
+list_columns-kept_dof-requires c = kept-columns (plan_ready (walked (goal.at.list_columns-kept_dof-requires c).In_ok-walk_blocks))
 
 pub list_columns-elims_dof-requires : goal.list_columns-elims_dof-requires
-list_columns-elims_dof-requires c =
-    let m = columns_of c.args.nrows c.args.ptrs.now c.args.rows.now c.args.values.now in
-    let kept = c.args.kept.now in
-    let elims = c.args.elims.now in
-    let len = c.args.chunk_len in
-    let lent = buffers c.args.map.now c.args.kept_cols.now c.args.elims_cols.now c.args.elims_blocks.now c.args.owners.now c.args.row_list.now c.args.row_starts.now c.args.visible.now c.args.visible_starts.now c.args.kept_starts.now c.args.kept_lo.now c.args.kept_hi.now c.args.kept_local.now c.args.elims_starts.now c.args.elims_lo.now c.args.elims_hi.now c.args.elims_local.now in
-    let walked = walk_fact c.walk_blocks.result kept elims _ _ _ _ c.column_count-n.ensures c.walk_blocks.ensures c.in_default-walk_blocks.is in
-    let parts = parts_fact c.check_chunk.result c.check_parts-parts.result m kept elims len c.check_chunk.ensures c.check_parts-parts.ensures c.in_default.is in
-    let roomy = room_fact c.check_room-room.result m kept elims len lent _ c.column_count-n.ensures c.check_room-room.ensures c.in_default-room.is in
-    let ready = plan_ready m kept elims len parts lent roomy _ walked in
-    elims-columns _ _ _ _ _ ready
+list_columns-elims_dof-requires c = elims-columns (plan_ready (walked (goal.at.list_columns-elims_dof-requires c).In_ok-walk_blocks))
 
 pub list_blocks-requires : goal.list_blocks-requires
-list_blocks-requires c =
-    let m = columns_of c.args.nrows c.args.ptrs.now c.args.rows.now c.args.values.now in
-    let kept = c.args.kept.now in
-    let elims = c.args.elims.now in
-    let len = c.args.chunk_len in
-    let lent = buffers c.args.map.now c.args.kept_cols.now c.args.elims_cols.now c.args.elims_blocks.now c.args.owners.now c.args.row_list.now c.args.row_starts.now c.args.visible.now c.args.visible_starts.now c.args.kept_starts.now c.args.kept_lo.now c.args.kept_hi.now c.args.kept_local.now c.args.elims_starts.now c.args.elims_lo.now c.args.elims_hi.now c.args.elims_local.now in
-    let walked = walk_fact c.walk_blocks.result kept elims _ _ _ _ c.column_count-n.ensures c.walk_blocks.ensures c.in_default-walk_blocks.is in
-    let parts = parts_fact c.check_chunk.result c.check_parts-parts.result m kept elims len c.check_chunk.ensures c.check_parts-parts.ensures c.in_default.is in
-    let roomy = room_fact c.check_room-room.result m kept elims len lent _ c.column_count-n.ensures c.check_room-room.ensures c.in_default-room.is in
-    let ready = plan_ready m kept elims len parts lent roomy _ walked in
-    elims-blocks _ _ _ _ _ ready
+list_blocks-requires c = elims-blocks (plan_ready (walked (goal.at.list_blocks-requires c).In_ok-walk_blocks))
+
+-- what `row_owners` left
+owned : (c : In_default) → c.row_owners.new.owners ≡ owner_list (seen c.args.columns) c.args.sides.elims.now ++ drop c.args.columns.nrows c.args.owners.now
+owned c = owners-is _ _ _ (rw c.in_default.is at c.row_owners.ensures) refl
 
 pub row_lists-requires : goal.row_lists-requires
 row_lists-requires c =
-    let lent = buffers c.args.map.now c.args.kept_cols.now c.args.elims_cols.now c.args.elims_blocks.now c.args.owners.now c.args.row_list.now c.args.row_starts.now c.args.visible.now c.args.visible_starts.now c.args.kept_starts.now c.args.kept_lo.now c.args.kept_hi.now c.args.kept_local.now c.args.elims_starts.now c.args.elims_lo.now c.args.elims_hi.now c.args.elims_local.now in
-    let m = columns_of c.args.nrows c.args.ptrs.now c.args.rows.now c.args.values.now in
-    let kept = c.args.kept.now in
-    let elims = c.args.elims.now in
-    let len = c.args.chunk_len in
-    let walked = walk_fact c.walk_blocks.result kept elims _ _ _ _ c.column_count-n.ensures c.walk_blocks.ensures c.in_default-walk_blocks.is in
-    let parts = parts_fact c.check_chunk.result c.check_parts-parts.result m kept elims len c.check_chunk.ensures c.check_parts-parts.ensures c.in_default.is in
-    let roomy = room_fact c.check_room-room.result m kept elims len lent _ c.column_count-n.ensures c.check_room-room.ensures c.in_default-room.is in
-    let ready = plan_ready m kept elims len parts lent roomy _ walked in
-    let owned = rw c.in_default-row_owners.is at c.row_owners.ensures in
-    let owners-are = owners-is m kept elims len lent parts roomy _ walked _ _ owned refl in
-    rw owners-are (plan-lists _ _ _ _ lent ready _)
+    rw (owned (goal.at.row_lists-requires c).In_default) (plan-lists (plan_ready (walked (goal.at.row_lists-requires c).In_ok-walk_blocks)) _)
 
 pub visible_lists-requires : goal.visible_lists-requires
 visible_lists-requires c =
-    let lent = buffers c.args.map.now c.args.kept_cols.now c.args.elims_cols.now c.args.elims_blocks.now c.args.owners.now c.args.row_list.now c.args.row_starts.now c.args.visible.now c.args.visible_starts.now c.args.kept_starts.now c.args.kept_lo.now c.args.kept_hi.now c.args.kept_local.now c.args.elims_starts.now c.args.elims_lo.now c.args.elims_hi.now c.args.elims_local.now in
-    let m = columns_of c.args.nrows c.args.ptrs.now c.args.rows.now c.args.values.now in
-    let kept = c.args.kept.now in
-    let elims = c.args.elims.now in
-    let len = c.args.chunk_len in
-    let walked = walk_fact c.walk_blocks.result kept elims _ _ _ _ c.column_count-n.ensures c.walk_blocks.ensures c.in_default-walk_blocks.is in
-    let parts = parts_fact c.check_chunk.result c.check_parts-parts.result m kept elims len c.check_chunk.ensures c.check_parts-parts.ensures c.in_default.is in
-    let roomy = room_fact c.check_room-room.result m kept elims len lent _ c.column_count-n.ensures c.check_room-room.ensures c.in_default-room.is in
-    let ready = plan_ready m kept elims len parts lent roomy _ walked in
-    let owned = rw c.in_default-row_owners.is at c.row_owners.ensures in
-    let owners-are = owners-is m kept elims len lent parts roomy _ walked _ _ owned refl in
-    rw owners-are (plan-visible _ _ _ _ lent ready _)
+    rw (owned (goal.at.visible_lists-requires c).In_default) (plan-visible (plan_ready (walked (goal.at.visible_lists-requires c).In_ok-walk_blocks)) _)
 
 pub spans-kept_spans-requires : goal.spans-kept_spans-requires
 spans-kept_spans-requires c =
-    let m = columns_of c.args.nrows c.args.ptrs.now c.args.rows.now c.args.values.now in
-    let kept = c.args.kept.now in
-    let elims = c.args.elims.now in
-    let len = c.args.chunk_len in
-    let lent = buffers c.args.map.now c.args.kept_cols.now c.args.elims_cols.now c.args.elims_blocks.now c.args.owners.now c.args.row_list.now c.args.row_starts.now c.args.visible.now c.args.visible_starts.now c.args.kept_starts.now c.args.kept_lo.now c.args.kept_hi.now c.args.kept_local.now c.args.elims_starts.now c.args.elims_lo.now c.args.elims_hi.now c.args.elims_local.now in
-    let walked = walk_fact c.walk_blocks.result kept elims _ _ _ _ c.column_count-n.ensures c.walk_blocks.ensures c.in_default-walk_blocks.is in
-    let parts = parts_fact c.check_chunk.result c.check_parts-parts.result m kept elims len c.check_chunk.ensures c.check_parts-parts.ensures c.in_default.is in
-    let roomy = room_fact c.check_room-room.result m kept elims len lent _ c.column_count-n.ensures c.check_room-room.ensures c.in_default-room.is in
-    let ready = plan_ready m kept elims len parts lent roomy _ walked in
-    let listed = c.list_columns-kept_dof.ensures in
-    rw (listed-list m kept elims len lent kept _ _ _ listed, listed-count m kept elims len lent kept _ _ _ listed) (kept_spans _ _ _ _ lent ready _)
+    rw (listed-list _ _ c.list_columns-kept_dof.ensures, listed-count _ _ c.list_columns-kept_dof.ensures)
+    (kept_spans (plan_ready (walked (goal.at.spans-kept_spans-requires c).In_ok-walk_blocks)) _)
 
 pub spans-eliminated_spans-requires : goal.spans-eliminated_spans-requires
 spans-eliminated_spans-requires c =
-    let m = columns_of c.args.nrows c.args.ptrs.now c.args.rows.now c.args.values.now in
-    let kept = c.args.kept.now in
-    let elims = c.args.elims.now in
-    let len = c.args.chunk_len in
-    let lent = buffers c.args.map.now c.args.kept_cols.now c.args.elims_cols.now c.args.elims_blocks.now c.args.owners.now c.args.row_list.now c.args.row_starts.now c.args.visible.now c.args.visible_starts.now c.args.kept_starts.now c.args.kept_lo.now c.args.kept_hi.now c.args.kept_local.now c.args.elims_starts.now c.args.elims_lo.now c.args.elims_hi.now c.args.elims_local.now in
-    let walked = walk_fact c.walk_blocks.result kept elims _ _ _ _ c.column_count-n.ensures c.walk_blocks.ensures c.in_default-walk_blocks.is in
-    let parts = parts_fact c.check_chunk.result c.check_parts-parts.result m kept elims len c.check_chunk.ensures c.check_parts-parts.ensures c.in_default.is in
-    let roomy = room_fact c.check_room-room.result m kept elims len lent _ c.column_count-n.ensures c.check_room-room.ensures c.in_default-room.is in
-    let ready = plan_ready m kept elims len parts lent roomy _ walked in
-    let listed = c.list_columns-elims_dof.ensures in
-    rw (listed-list m kept elims len lent elims _ _ _ listed, listed-count m kept elims len lent elims _ _ _ listed) (elims-spans _ _ _ _ lent ready _)
+    rw (listed-list _ _ c.list_columns-elims_dof.ensures, listed-count _ _ c.list_columns-elims_dof.ensures)
+    (elims-spans (plan_ready (walked (goal.at.spans-eliminated_spans-requires c).In_ok-walk_blocks)) _)
 
 pub returns : goal.returns
 returns c =
-    let m = columns_of c.args.nrows c.args.ptrs.now c.args.rows.now c.args.values.now in
-    let kept = c.args.kept.now in
-    let elims = c.args.elims.now in
-    let len = c.args.chunk_len in
-    let lent = buffers c.args.map.now c.args.kept_cols.now c.args.elims_cols.now c.args.elims_blocks.now c.args.owners.now c.args.row_list.now c.args.row_starts.now c.args.visible.now c.args.visible_starts.now c.args.kept_starts.now c.args.kept_lo.now c.args.kept_hi.now c.args.kept_local.now c.args.elims_starts.now c.args.elims_lo.now c.args.elims_hi.now c.args.elims_local.now in
-    let walked = walk_fact c.walk_blocks.result kept elims _ _ _ _ c.column_count-n.ensures c.walk_blocks.ensures c.in_default-walk_blocks.is in
-    let parts = parts_fact c.check_chunk.result c.check_parts-parts.result m kept elims len c.check_chunk.ensures c.check_parts-parts.ensures c.in_default.is in
-    let roomy = room_fact c.check_room-room.result m kept elims len lent _ c.column_count-n.ensures c.check_room-room.ensures c.in_default-room.is in
-    let ready = plan_ready m kept elims len parts lent roomy _ walked in
-    let owned = rw c.in_default-row_owners.is at c.row_owners.ensures in
-    let owners-are = owners-is m kept elims len lent parts roomy _ walked _ _ owned refl in
-    plan_all m kept elims len lent parts roomy _ walked _ _ owned refl _ _ _ (span_count_lem m kept elims len lent kept _ _ _ _ _ _ c.list_columns-kept_dof.ensures c.spans-kept_spans.ensures) (span_count_lem m kept elims len lent elims _ _ _ _ _ _ c.list_columns-elims_dof.ensures c.spans-eliminated_spans.ensures) (plan_of_lem m kept elims len lent _ (mapped_is m kept elims len lent parts roomy _ walked) (listed-list m kept elims len lent kept _ _ _ c.list_columns-kept_dof.ensures) (listed-list m kept elims len lent elims _ _ _ c.list_columns-elims_dof.ensures) (numbered_list m kept elims len lent elims _ _ _ c.list_blocks.ensures) owners-are (rows-listed m kept elims len lent _ _ owners-are c.row_lists.ensures) (visible-left m kept elims len lent ready _ _ owners-are c.visible_lists.ensures) (span_lists m kept elims len lent kept _ _ _ _ _ _ c.list_columns-kept_dof.ensures c.spans-kept_spans.ensures) (span_lists m kept elims len lent elims _ _ _ _ _ _ c.list_columns-elims_dof.ensures c.spans-eliminated_spans.ensures))
+    let w = walked (goal.at.returns c).In_ok-walk_blocks in
+    let o = owned (goal.at.returns c).In_default in
+    let m = seen c.args.columns in
+    plan_all w (rw c.in_default.is at c.row_owners.ensures) refl _ _ _
+    (span_count_lem m _ _ _ _ c.list_columns-kept_dof.ensures c.spans-kept_spans.ensures)
+    (span_count_lem m _ _ _ _ c.list_columns-elims_dof.ensures c.spans-eliminated_spans.ensures)
+    (plan_of_lem m c.args.sides.kept.now c.args.sides.elims.now c.args.chunk_len _ _ (mapped_is w)
+    (listed-list _ _ c.list_columns-kept_dof.ensures) (listed-list _ _ c.list_columns-elims_dof.ensures) (numbered_list _ _ c.list_blocks.ensures)
+    o (rows-listed m _ c.args.owners.now _ _ o c.row_lists.ensures) (visible-left (plan_ready w) _ _ o c.visible_lists.ensures)
+    (span_lists m _ _ _ _ c.list_columns-kept_dof.ensures c.spans-kept_spans.ensures) (span_lists m _ _ _ _ c.list_columns-elims_dof.ensures c.spans-eliminated_spans.ensures))

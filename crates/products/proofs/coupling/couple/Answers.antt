@@ -1,10 +1,7 @@
 -- `coupling::couple` clears the rows, sweeps one side into them and gathers the other from them. Each step leaves the lengths as they were, so the next may be called,
 -- and the three results together are the product. Assumes nothing.
-use Rattle.products.proofs.LentRules.{couple_sweeps, couple_gathers, couple_done, lending}
+use Rattle.products.proofs.LentRules.{couple_sweeps, couple_gathers, couple_done}
 use Rattle.products.proofs.coupling.couple.Goals as goal
-
-pub clear-requires : goal.clear-requires
-clear-requires c = search lending
 
 pub sweep_side-requires : goal.sweep_side-requires
 sweep_side-requires c =

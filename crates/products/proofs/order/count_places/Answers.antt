@@ -6,15 +6,6 @@ use Rattle.ground.proofs.FirstLaws.{first_stop, first_turn, first_end}
 use Rattle.std.proofs.Common.{not}
 use Rattle.products.proofs.order.count_places.Goals as goal
 
-pub loop-i-init : goal.loop-i-init
-loop-i-init c = search ordering
-
-pub wide-c-requires : goal.wide-c-requires
-wide-c-requires c = search ordering
-
-pub has_next-requires : goal.has_next-requires
-has_next-requires c = search ordering
-
 pub returns-then-not-has_next : goal.returns-then-not-has_next
 returns-then-not-has_next c =
     counted _ _ _ _ c.loop-i.i c.loop-i.invariant.2 (first_stop _ c.loop-i-test.true c.loop-i.invariant.3 (place-told _ c.args.starts.now c.args.order.now c.loop-i.progress c.loop-i.i _ c.has_next.result _ c.loop-i.invariant.2 c.wide-c.ensures.value c.has_next.ensures (ap not c.if-not-has_next.true)))

@@ -2,17 +2,8 @@
 use Rattle.products.proofs.OrderRules.{ordering}
 use Rattle.products.proofs.order.try_order.Goals as goal
 
-pub fill-requires : goal.fill-requires
-fill-requires c = search ordering
-
-pub count_places-i-requires : goal.count_places-i-requires
-count_places-i-requires c = search ordering
-
 pub returns-then-i-order : goal.returns-then-i-order
 returns-then-i-order c = search ordering
-
-pub some_left-requires : goal.some_left-requires
-some_left-requires c = search ordering
 
 pub returns-then-some_left : goal.returns-then-some_left
 returns-then-some_left c = search ordering

@@ -1,18 +1,14 @@
 -- `plan_check::some_chunk_bad` meets its contract. Assumes nothing.
-use Rattle.products.proofs.PlanRules.{planning}
+use Rattle.std.proofs.Common.{refl, ◌∙◌, arith, rules}
+use Rattle.std.proofs.lemmas.Iterator.{YieldsList-from_range}
+use Rattle.std.proofs.lemmas.Iterator.Search.{any_from_yields_List}
+use Rattle.plan.specs.LentSpans.{spread_lent}
+use Rattle.products.specs.Orders.{chunk_bad}
+use Rattle.products.specs.PlanCheck.{rows_only}
+use Rattle.products.proofs.SearchRules.{any_some}
 use Rattle.products.proofs.plan_check.some_chunk_bad.Goals as goal
 
-pub loop-c-init : goal.loop-c-init
-loop-c-init c = search planning
-
-pub chunk_bad-requires : goal.chunk_bad-requires
-chunk_bad-requires c = search planning
-
-pub returns-then-chunk_bad : goal.returns-then-chunk_bad
-returns-then-chunk_bad c = search planning
-
-pub loop-c-preserved : goal.loop-c-preserved
-loop-c-preserved c = search planning
-
 pub returns : goal.returns
-returns c = search planning
+returns c =
+    let bad = chunk_bad (rows_only c.args.columns.rows.now) c.args.dof c.args.len (spread_lent c.args.spans) in
+    any_from_yields_List bad _ _ c.any.result c.any.ensures.ran (YieldsList-from_range 0 c.args.chunks c.args.chunks refl (omega arith)) (λ x b q k. search rules) ∙ any_some bad c.args.chunks

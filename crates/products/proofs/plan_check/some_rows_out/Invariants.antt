@@ -1,13 +1,13 @@
 -- `plan_check::some_rows_out` meets its contract. Assumes nothing.
-use Rattle.products.specs.PlanCheck.{rows_out_at}
+use Rattle.std.proofs.Common.{◌≡◌, ◌+◌, ◌-◌, ◌≤◌, length}
 use Rattle.ground.specs.First.{some}
-use Rattle.std.proofs.Common.{◌≡◌, ◌+◌, ◌-◌, ◌≤◌}
+use Rattle.products.specs.PlanCheck.{rows_out_at}
 use Rattle.products.proofs.plan_check.some_rows_out.Given as goal
 
 abbrev pub invariant-loop-k : goal.invariant-loop-k
 invariant-loop-k l =
-    (l.first ≤ l.k) × (some (rows_out_at l.rows l.from (l.from + l.size) l.lo l.hi) l.k l.last ≡ some (rows_out_at l.rows l.from (l.from + l.size) l.lo l.hi) l.first l.last)
+    let bad = rows_out_at l.window.columns.rows.now l.window.from (l.window.from + l.window.size) l.lo l.hi in
+    (l.at ≤ length l.lo) × (some bad l.at (length l.lo) ≡ some bad 0 (length l.lo))
 
 abbrev pub decreases-loop-k : goal.decreases-loop-k
-decreases-loop-k l =
-    l.last - l.k
+decreases-loop-k l = length l.lo - l.at

@@ -1,6 +1,6 @@
 -- `products::side_sums::add_inverse` meets its contract. Assumes nothing.
 use Rattle.std.proofs.Common.{arith}
-use Rattle.products.proofs.InverseRules.{term-place, inverting}
+use Rattle.products.proofs.InverseRules.{term-place}
 use Rattle.products.proofs.side_sums.add_inverse.Goals as goal
 
 pub overflow_mul-result : goal.overflow_mul-result
@@ -11,9 +11,3 @@ overflow_add-result c = omega (arith, term-place _ _ _ _ _ _ _ c.requires)
 
 pub overflow_add-result-2 : goal.overflow_add-result-2
 overflow_add-result-2 c = omega (arith, term-place _ _ _ _ _ _ _ c.requires)
-
-pub overflow_add-result-3 : goal.overflow_add-result-3
-overflow_add-result-3 c = search inverting
-
-pub returns : goal.returns
-returns c = search inverting

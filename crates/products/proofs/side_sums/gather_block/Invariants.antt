@@ -1,13 +1,14 @@
 -- `side_sums::gather_block` gathers the columns of one block, one a turn. The invariant: the result with the places from l on written is the result with all of the block's written.
--- The block's columns exist, so no sum of places wraps. Assumes nothing.
+-- Assumes nothing.
 use Rattle.std.proofs.Common.{◌≡◌, ◌+◌, ◌-◌, ◌≤◌, length}
-use Rattle.columns.specs.Columns.{columns_of}
-use Rattle.products.specs.SideFits.{local_sum, written}
+use Rattle.columns.specs.Lent.{over}
+use Rattle.products.specs.SideFits.{placed_sum, written}
 use Rattle.products.proofs.side_sums.gather_block.Given as goal
 
 abbrev pub invariant-loop-l : goal.invariant-loop-l
 invariant-loop-l l =
-    (l.at ≤ l.l) × (length l.out ≡ length l.initial.out) × (written (local_sum l.start (columns_of (length l.y) l.ptrs l.rows l.values) l.side l.y) l.l (l.at + l.dof) l.out ≡ written (local_sum l.start (columns_of (length l.y) l.ptrs l.rows l.values) l.side l.y) l.at (l.at + l.dof) l.initial.out)
+    let sum = placed_sum l.start (over (length l.y) l.columns) l.block.first l.at l.y in
+    (l.at ≤ l.l) × (length l.out ≡ length l.initial.out) × (written sum l.l (l.at + l.block.dof) l.out ≡ written sum l.at (l.at + l.block.dof) l.initial.out)
 
 abbrev pub decreases-loop-l : goal.decreases-loop-l
 decreases-loop-l l =

@@ -2,12 +2,6 @@
 use Rattle.products.proofs.InverseRules.{inverting}
 use Rattle.products.proofs.side_sums.inverse_row.Goals as goal
 
-pub loop-c-init : goal.loop-c-init
-loop-c-init c = search inverting
-
-pub add_inverse-acc-requires : goal.add_inverse-acc-requires
-add_inverse-acc-requires c = search inverting
-
 pub loop-c-preserved : goal.loop-c-preserved
 loop-c-preserved c = search inverting
 

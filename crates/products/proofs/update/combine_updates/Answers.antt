@@ -1,56 +1,50 @@
 -- `update::combine_updates` tells what the blocks' check, and then the lengths' check, tells. Past both the lengths are those that `put_updates` asks,
 -- and what it leaves is the update. Assumes nothing.
 use Rattle.std.proofs.Common.{true, false}
-use Rattle.products.specs.Couplings.{combine_updates}
-use Rattle.products.proofs.LentRules.{first-refused, first_keep, then_refused, then_passes, made-refused, made-done, dofs-fit, update_lengths_lem, updates_fit, update_done, lending}
+use Rattle.std.proofs.lemmas.Result.{err_from_is_err_and}
+use Rattle.columns.specs.Lent.{seen}
+use Rattle.blocks.specs.Claims.{BlocksKeep}
+use Rattle.products.specs.Couplings.{update_lengths, combine_updates}
+use Rattle.products.proofs.LentRules.{LentPassed, first-refused, first_keep, then_refused, then_passes, made-refused, made-done, dofs-fit, update_lengths_lem, updates_fit, update_done}
+use Rattle.products.proofs.update.combine_updates.Goals.{In_ok-check_blocks, In_ok-check_lengths}
 use Rattle.products.proofs.update.combine_updates.Goals as goal
 
-pub check_blocks-checked-requires : goal.check_blocks-checked-requires
-check_blocks-checked-requires c = search lending
+-- past the blocks' check, and past the lengths'
 
-pub enum_known-checked : goal.enum_known-checked
-enum_known-checked c = search lending
+keep : (c : In_ok-check_blocks) → BlocksKeep (seen c.args.columns) c.args.sides.kept.now c.args.sides.elims.now c.args.map.now
+keep c = first_keep _ _ _ _ c.check_blocks.result _ c.check_blocks.ensures c.in_ok-check_blocks.was
 
-pub returns-in-Refused : goal.returns-in-Refused
+passed : (c : In_ok-check_lengths) → LentPassed (seen c.args.columns) c.args.sides.kept.now c.args.sides.elims.now c.args.map.now
+    (update_lengths (seen c.args.columns) c.args.sides.kept.now c.args.sides.elims.now c.args.kept_update.now c.args.elims_update.now c.args.out.now) c.check_lengths.new.map
+passed c =
+    then_passes _ _ _ _ c.check_blocks.result _ c.check_blocks.ensures c.in_ok-check_blocks.was c.check_lengths.result _ _ c.count-n.ensures _ _ (update_lengths_lem _ _ c.args.kept_update.now c.args.elims_update.now c.args.out.now _ _ _ _ c.side_dof.ensures c.side_dof-2.ensures c.count-n.ensures) c.check_lengths.ensures c.in_ok-check_lengths.was
+
+pub returns-in_err-check_blocks : goal.returns-in_err-check_blocks
 unfolding combine_updates
-returns-in-Refused c =
-    made-refused _ _ _ _ _ _ c.in-Refused.r _ _ (first-refused _ _ _ _ c.check_blocks-checked.result _ c.check_blocks-checked.ensures _ c.in-Refused.r c.in-Refused.is)
-
-pub enum_told-1 : goal.enum_told-1
-enum_told-1 c = search lending
-
-pub column_count-n-requires : goal.column_count-n-requires
-column_count-n-requires c = search lending
+returns-in_err-check_blocks c =
+    let p = err_from_is_err_and c.from_residual.result c.from_residual.ensures.1 in
+    rw (p.1, p.2)
+    (made-refused _ _ _ _ _ _ _ _ _ (first-refused _ _ _ _ c.check_blocks.result _ c.check_blocks.ensures _ _ c.in_err-check_blocks.was))
 
 pub side_dof-requires : goal.side_dof-requires
-side_dof-requires c =
-    dofs-fit _ _ _ _ (first_keep _ _ _ _ c.check_blocks-checked.result _ c.check_blocks-checked.ensures c.in_default.is) false
+side_dof-requires c = dofs-fit _ _ _ _ (keep (goal.at.side_dof-requires c).In_ok-check_blocks) false
 
 pub side_dof-requires-2 : goal.side_dof-requires-2
-side_dof-requires-2 c =
-    dofs-fit _ _ _ _ (first_keep _ _ _ _ c.check_blocks-checked.result _ c.check_blocks-checked.ensures c.in_default.is) true
+side_dof-requires-2 c = dofs-fit _ _ _ _ (keep (goal.at.side_dof-requires-2 c).In_ok-check_blocks) true
 
-pub check_lengths-lent-requires : goal.check_lengths-lent-requires
-check_lengths-lent-requires c = search lending
-
-pub enum_known-lent : goal.enum_known-lent
-enum_known-lent c = search lending
-
-pub returns-in-Refused-lent : goal.returns-in-Refused-lent
+pub returns-in_err-check_lengths : goal.returns-in_err-check_lengths
 unfolding combine_updates
-returns-in-Refused-lent c =
-    made-refused _ _ _ _ _ _ c.in-Refused-lent.r _ _ (then_refused _ _ _ _ c.check_blocks-checked.result _ c.check_blocks-checked.ensures c.in_default.is c.check_lengths-lent.result _ _ c.column_count-n.ensures _ _ (update_lengths_lem _ _ c.args.kept_update.now c.args.elims_update.now c.args.out.now _ _ _ _ c.side_dof.ensures c.side_dof-2.ensures c.column_count-n.ensures) c.check_lengths-lent.ensures c.in-Refused-lent.r c.in-Refused-lent.is)
-
-pub enum_told-in_default-lent : goal.enum_told-in_default-lent
-enum_told-in_default-lent c = search lending
+returns-in_err-check_lengths c =
+    let p = err_from_is_err_and c.from_residual-in_err-check_lengths.result c.from_residual-in_err-check_lengths.ensures.1 in
+    rw (p.1, p.2)
+    (made-refused _ _ _ _ _ _ _ _ _ (then_refused _ _ _ _ c.check_blocks.result _ c.check_blocks.ensures c.in_ok-check_blocks.was c.check_lengths.result _ _ c.count-n.ensures _ _ (update_lengths_lem _ _ c.args.kept_update.now c.args.elims_update.now c.args.out.now _ _ _ _ c.side_dof.ensures c.side_dof-2.ensures c.count-n.ensures) c.check_lengths.ensures _ c.in_err-check_lengths.was))
 
 pub put_updates-requires : goal.put_updates-requires
 put_updates-requires c =
-    let g = then_passes _ _ _ _ c.check_blocks-checked.result _ c.check_blocks-checked.ensures c.in_default.is c.check_lengths-lent.result _ _ c.column_count-n.ensures _ _ (update_lengths_lem _ _ c.args.kept_update.now c.args.elims_update.now c.args.out.now _ _ _ _ c.side_dof.ensures c.side_dof-2.ensures c.column_count-n.ensures) c.check_lengths-lent.ensures c.in_default-lent.is in
-    updates_fit _ _ _ _ c.args.kept_update.now c.args.elims_update.now c.args.out.now _ g
+    updates_fit _ _ _ _ c.args.kept_update.now c.args.elims_update.now c.args.out.now _ (passed (goal.at.put_updates-requires c).In_ok-check_lengths)
 
 pub returns : goal.returns
 unfolding combine_updates
 returns c =
-    let g = then_passes _ _ _ _ c.check_blocks-checked.result _ c.check_blocks-checked.ensures c.in_default.is c.check_lengths-lent.result _ _ c.column_count-n.ensures _ _ (update_lengths_lem _ _ c.args.kept_update.now c.args.elims_update.now c.args.out.now _ _ _ _ c.side_dof.ensures c.side_dof-2.ensures c.column_count-n.ensures) c.check_lengths-lent.ensures c.in_default-lent.is in
+    let g = passed (goal.at.returns c).In_ok-check_lengths in
     made-done _ _ _ _ _ _ _ _ _ g (update_done _ _ _ _ c.args.kept_update.now c.args.elims_update.now c.args.out.now _ g _ c.put_updates.ensures)

@@ -9,11 +9,5 @@ pub loop-c-init : goal.loop-c-init
 loop-c-init c =
     (search lending, written-list nan _ _ c.args.out.now refl)
 
-pub update_at-requires : goal.update_at-requires
-update_at-requires c = search lending
-
 pub loop-c-preserved : goal.loop-c-preserved
 loop-c-preserved c = search lending
-
-pub returns : goal.returns
-returns c = search lending

@@ -1,6 +1,0 @@
--- `hall::cases::case4` meets its contract. Assumes nothing.
-use Rattle.hall.proofs.CaseRules.{both}
-use Rattle.hall.proofs.cases.case4.Goals as goal
-
-pub returns : goal.returns
-returns c = both c.case4_times.ensures c.case4_transpose.ensures

@@ -1,3 +1,0 @@
--- What the proofs share.
-mod Counting
-mod Nans
