@@ -35,7 +35,6 @@ use Rattle.blocks.proofs.eliminated_blocks.count_values.Reads as counts
 use Rattle.blocks.proofs.eliminated_blocks.gather_from_jacobian.Reads as gathers
 use Rattle.blocks.proofs.eliminated_blocks.damp.Reads as damps
 use Rattle.blocks.proofs.sides.blocks_of.Reads as lists
-use Rattle.blocks.specs.BlockList.{blocks_of}
 
 unfoldable term_back_of : Termed → Result Float Refusal
 term_back_of d = cond (eqb d.told.number 0) (Ok (get_or d.terms 0 nan)) (Err (refusal_of d.told))
@@ -54,9 +53,9 @@ diagonal-term κs a s t p q = by_equation termed term_back_of term_back_lem _ p 
 pub slot : (κs : Lfts 1) (a : _) (s t : _) (p q : Option ColSlot) → slots.Post κs a p s → slots.Post κs a q t → p ≡ q
 slot κs a s t p q = named _ p q
 
--- the blocks that are handed on; where the list lies in memory no contract says
-pub blocks-of : (κs : Lfts 1) (a : _) (s t : _) (p q : _) → lists.Post κs a p s → lists.Post κs a q t → blocks_of p.rest.now ≡ blocks_of q.rest.now
-blocks-of κs a s t p q = named _ (blocks_of p.rest.now) (blocks_of q.rest.now)
+-- the list itself is handed on
+pub blocks-of : (κs : Lfts 1) (a : _) (s t : _) (p q : _) → lists.Post κs a p s → lists.Post κs a q t → p.rest ≡ q.rest
+blocks-of κs a s t p q = named _ p.rest q.rest
 
 pub kept-local : (κs : Lfts 1) (a : _) (s t : _) (p q : Option ℕ) → kept.Post κs a p s → kept.Post κs a q t → p ≡ q
 kept-local κs a s t p q = named _ p q

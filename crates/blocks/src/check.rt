@@ -52,11 +52,13 @@ fn empty_side(sides: Sides) -> Result<(), Refusal>
     ensures { told result ≡ empty_side sides.entry.kept.now sides.entry.elims.now }
 {
     if sides.kept.len() / 2 == 0 {
-        return Err(Refusal::EmptySide { side: Side::Kept });
+        return Err(Refusal::EmptySide {
+            side: Side::Kept.number(),
+        });
     }
     if sides.elims.len() / 2 == 0 {
         return Err(Refusal::EmptySide {
-            side: Side::Eliminated,
+            side: Side::Eliminated.number(),
         });
     }
     Ok(())

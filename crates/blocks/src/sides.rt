@@ -26,7 +26,7 @@ pub struct Blocks<'a> {
 }
 
 pub fn blocks_of(side: &[u32]) -> Blocks<'_>
-    ensures { blocks_of result.rest.now ≡ blocks_of side.now }
+    ensures { result.rest ≡ side.entry }
 {
     Blocks { rest: side }
 }

@@ -14,6 +14,7 @@ use borrow.Author.Tests.{lt-ltb, le-ltb, ltb-true, ltb-false, leb-true, leb-fals
 use Rattle.ground.specs.First.{first_n, first}
 use Rattle.ground.proofs.FirstLaws.{first_turn, first_stop, first_end, first-high}
 use Rattle.columns.specs.Columns.{row_falls, row_bad}
+use Rattle.columns.specs.Reader.{step_at, stops_at, above_of}
 use Rattle.columns.specs.Unchecked.{RunThere}
 
 -- ---- the rows
@@ -42,6 +43,81 @@ row_is nrows rows p = ap (λ (b : Bool). leb nrows (get_or rows p 0) || b) (go (
     go : (b : Bool) → ltb (get_or rows p 0) (cond b (get_or rows (p - 1) 0 + 1) 0) ≡ (b && leb (get_or rows p 0) (get_or rows (p - 1) 0))
     go true = at (leb (get_or rows p 0) (get_or rows (p - 1) 0)) refl
     go false = le-ltb (get_or rows p 0) 0 (omega arith)
+
+-- ---- the walk
+
+-- what a walk comes to at a place where row x stands, and where none is left
+module _ (nrows : ℕ) (rows : List ℕ) (least at : ℕ) where
+  module _ (x : ℕ) (l : at < length rows) (e : x ≡ get_or rows at 0) where
+    pub stops_there : (leb nrows x || ltb x least) ≡ stops_at nrows least (step_at rows at)
+    unfolding stops_at
+    stops_there = rw (lt-ltb at (length rows) l, e)
+
+    pub above_there : x + 1 ≡ above_of (step_at rows at)
+    unfolding above_of
+    above_there = rw (lt-ltb at (length rows) l, e)
+
+  pub stops_ended : length rows ≤ at → stops_at nrows least (step_at rows at) ≡ true
+  unfolding stops_at
+  stops_ended h = rw (le-ltb at (length rows) h)
+
+module _ (nrows : ℕ) (rows : List ℕ) where
+  abbrev bad : ℕ → Bool
+  bad p = row_bad nrows rows 0 p
+
+  -- what the walk knows at its place
+  pub record WalkedTo : Type 0 where
+    pub at : ℕ
+    pub least : ℕ
+    -- it is a number of the machine's
+    pub fits : least < 2 ^ 64
+    pub inside : at ≤ length rows
+    pub floor : least ≡ least_at rows at
+    -- no row before is bad
+    pub rest : first bad at (length rows) ≡ first bad 0 (length rows)
+
+  abbrev pub walk_start : WalkedTo
+  walk_start = record { at = 0; least = 0; fits = lit< tt; inside = omega arith; floor = least_first rows; rest = refl }
+
+  module _ (w : WalkedTo) where
+    abbrev Stops : Bool → Type 0
+    Stops b = stops_at nrows w.least (step_at rows w.at) ≡ b
+
+    pub row-there : (b : Bool) → w.at < length rows → Stops b → bad w.at ≡ b
+    unfolding stops_at
+    row-there b l e = sym (row_is nrows rows w.at) ∙ rw (lt-ltb _ _ l, w.floor) at e
+
+    -- it stops at the first bad row, or at the end
+    pub walk_stops : Stops true → w.at ≡ first bad 0 (length rows)
+    walk_stops e = go (ltb w.at (length rows)) refl
+      where
+        go : (t : Bool) → ltb w.at (length rows) ≡ t → w.at ≡ first bad 0 (length rows)
+        go true t = let l = ltb-true w.at (length rows) t in first_stop bad l w.rest (row-there true l e)
+        go false t = let l = ltb-false w.at (length rows) t in le_antisymm w.inside l ∙ first_end bad w.inside l w.rest
+
+    -- it goes on where a row is left
+    pub walk_goes : Stops false → w.at < length rows
+    unfolding stops_at
+    walk_goes e = go (ltb w.at (length rows)) refl
+      where
+        go : (t : Bool) → ltb w.at (length rows) ≡ t → w.at < length rows
+        go true t = ltb-true w.at (length rows) t
+        go false t = let z : ◌≡◌ {A = ℕ} 0 1 = cc (rw t at e) in absurd (omega arith)
+
+    -- and knows as much of the next place
+    pub floor_next : (least : ℕ) → least ≡ above_of (step_at rows w.at) → Stops false → least ≡ least_at rows (w.at + 1)
+    unfolding above_of
+    floor_next least e s = rw (lt-ltb _ _ (walk_goes s)) at e ∙ least_next rows w.at
+
+    abbrev pub walk_turn : (least : ℕ) → least < 2 ^ 64 → least ≡ above_of (step_at rows w.at) → Stops false → WalkedTo
+    walk_turn least f e s = record {
+      at = w.at + 1;
+      least = least;
+      fits = f;
+      inside = omega (arith, walk_goes s);
+      floor = floor_next least e s;
+      rest = first_turn bad (walk_goes s) w.rest (row-there false (walk_goes s) s);
+    }
 
 -- ---- a column's own part
 

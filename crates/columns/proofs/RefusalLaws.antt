@@ -3,7 +3,7 @@
 use mathlib.Core.Path.{◌≡◌, refl, ap, sym}
 use mathlib.Core.Bool.{Bool, true, false, cond}
 use mathlib.Core.List.{List}
-use Prim.Native.Nat.{ℕ, zero, suc, ◌≤◌, ◌<◌}
+use Prim.Native.Nat.{ℕ, suc, ◌≤◌, ◌<◌}
 use native.Mathlib.Omega.{arith}
 use lib.Dec.{eqb, leb}
 use lib.ListN.{get_or}
@@ -29,26 +29,16 @@ use Rattle.columns.specs.declared.refusal.Refusal.TheVariants.{
 }
 use Rattle.std.specs.Prelude.{Ok, Err}
 use Rattle.std.specs.Result.{result_and}
-use Rattle.columns.specs.declared.refusal.Side.{Side}
-use Rattle.columns.specs.declared.refusal.Side.TheVariants.{Kept, Eliminated}
-use Rattle.columns.specs.Refusals.{Answer, side_number, number, Told, tell, done, refused, told, Passes, on_pass, or_else, sooner}
+use Rattle.columns.specs.Refusals.{Answer, number, Told, tell, done, refused, told, Passes, on_pass, or_else, sooner}
 
 -- ---- the refusal of a number and values
-
-abbrev pub side_by : ℕ → Side
-side_by zero = Kept
-side_by (suc n) = Eliminated
-
-side_back : (s : Side) → side_by (side_number s) ≡ s
-side_back Kept = refl
-side_back Eliminated = refl
 
 unfoldable pub refusal_by : ℕ → List ℕ → Refusal
 refusal_by n vs =
     cond (eqb n 1) (TooBig)
     (cond (eqb n 2) (BadShape)
     (cond (eqb n 3) (BadRow (get_or vs 0 0) (get_or vs 1 0))
-    (cond (eqb n 4) (EmptySide (side_by (get_or vs 0 0)))
+    (cond (eqb n 4) (EmptySide (get_or vs 0 0))
     (cond (eqb n 5) (BadChunk)
     (cond (eqb n 6) (NoRoom (get_or vs 0 0) (get_or vs 1 0))
     (cond (eqb n 7) (ColumnOutOfRange (get_or vs 0 0))
@@ -57,7 +47,7 @@ refusal_by n vs =
     (cond (eqb n 10) (Connected (get_or vs 0 0) (get_or vs 1 0))
     (cond (eqb n 11) (WrongLength (get_or vs 0 0) (get_or vs 1 0))
     (cond (eqb n 12) (BadDamping)
-    (cond (eqb n 13) (BadPlan (side_by (get_or vs 0 0)))
+    (cond (eqb n 13) (BadPlan (get_or vs 0 0))
     (BadSchedule (get_or vs 0 0))))))))))))))
 
 unfoldable pub refusal_of : Told → Refusal
@@ -68,7 +58,7 @@ unfolding refusal_of refusal_by
 refusal_back TooBig = refl
 refusal_back BadShape = refl
 refusal_back (BadRow column place) = refl
-refusal_back (EmptySide side) = ap (λ (s : Side). EmptySide s) (side_back side)
+refusal_back (EmptySide side) = refl
 refusal_back BadChunk = refl
 refusal_back (NoRoom buffer need) = refl
 refusal_back (ColumnOutOfRange column) = refl
@@ -77,7 +67,7 @@ refusal_back (ColumnUnclaimed column) = refl
 refusal_back (Connected now earlier) = refl
 refusal_back (WrongLength place need) = refl
 refusal_back BadDamping = refl
-refusal_back (BadPlan side) = ap (λ (s : Side). BadPlan s) (side_back side)
+refusal_back (BadPlan side) = refl
 refusal_back (BadSchedule place) = refl
 
 -- no refusal has the number 0

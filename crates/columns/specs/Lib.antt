@@ -8,3 +8,4 @@ pub mod JacobianOps
 -- what the code's own functions do and ask, which no entry point's promise names
 pub mod Unchecked
 pub mod Rises
+pub mod Reader

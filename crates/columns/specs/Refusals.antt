@@ -48,7 +48,7 @@ abbrev pub values : Refusal → List ℕ
 values TooBig = []
 values BadShape = []
 values (BadRow column place) = column ∷ place ∷ []
-values (EmptySide side) = side_number side ∷ []
+values (EmptySide side) = side ∷ []
 values BadChunk = []
 values (NoRoom buffer need) = buffer ∷ need ∷ []
 values (ColumnOutOfRange column) = column ∷ []
@@ -57,7 +57,7 @@ values (ColumnUnclaimed column) = column ∷ []
 values (Connected now earlier) = now ∷ earlier ∷ []
 values (WrongLength place need) = place ∷ need ∷ []
 values BadDamping = []
-values (BadPlan side) = side_number side ∷ []
+values (BadPlan side) = side ∷ []
 values (BadSchedule place) = place ∷ []
 
 -- what a call tells: a number, 0 for done, and the values that go with it. Every promise speaks through this

@@ -30,7 +30,8 @@ pub enum Refusal {
     BadShape,
     // the first column with a bad entry, and that entry's place among all entries
     BadRow { column: usize, place: usize },
-    EmptySide { side: Side },
+    // the side's number, 0 kept and 1 eliminated. A number, as for every value: `values` answers for any, also where a caller made the refusal.
+    EmptySide { side: usize },
     BadChunk,
     // the buffer's place in the room list
     NoRoom { buffer: usize, need: usize },
@@ -42,7 +43,8 @@ pub enum Refusal {
     // the place among the lengths that the call takes
     WrongLength { place: usize, need: usize },
     BadDamping,
-    BadPlan { side: Side },
+    // the side's number likewise
+    BadPlan { side: usize },
     BadSchedule { place: usize },
 }
 
@@ -112,7 +114,7 @@ impl Refusal {
         match self {
             Refusal::TooBig | Refusal::BadShape | Refusal::BadChunk | Refusal::BadDamping =>
                 NO_VALUES,
-            Refusal::EmptySide { side } | Refusal::BadPlan { side } => one_value(side.number()),
+            Refusal::EmptySide { side } | Refusal::BadPlan { side } => one_value(side),
             Refusal::ColumnOutOfRange { column }
             | Refusal::ColumnTwice { column }
             | Refusal::ColumnUnclaimed { column } => one_value(column),

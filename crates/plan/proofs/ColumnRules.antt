@@ -11,10 +11,11 @@ use Rattle.std.specs.List.{between}
 use Rattle.std.specs.Simd.{first_chunks}
 use Rattle.std.proofs.lemmas.List.Edits.{length-between}
 use Rattle.ground.specs.Gather.{gather, list_of}
-use Rattle.ground.proofs.GatherLaws.{gather_none, gather_last, length-list_of}
-use Rattle.ground.proofs.ListLaws.{pair_first, pair_second}
+use Rattle.ground.proofs.GatherLaws.{gather_none, gather_last, length-list_of, get_or-list_of}
+use Rattle.ground.proofs.ListLaws.{pair_first, pair_second, gather-at}
 use Rattle.blocks.specs.Sides.{block_count, first_of, dof_of, offset_of, side_dof}
 use Rattle.blocks.proofs.SideLaws.{offset-next}
+use Rattle.plan.specs.Plan.{column_blocks}
 use Rattle.plan.specs.ColumnLists.{block_numbers, Counted, numbers_listed, ColumnsFit}
 
 -- ---- where blocks begin
@@ -36,6 +37,13 @@ numbers_length v side (suc b) =
     ∙ ap length (gather_last (block_numbers v side) 0 b (omega arith))
     ∙ length-append (gather (block_numbers v side) 0 b) (block_numbers v side b)
     ∙ (rw (numbers_length v side b, length-list_of (λ i. v b (first_of side b + i)) 0 (dof_of side b)))
+
+-- in the list of all columns' blocks each column has its own
+pub number_at : (side : List ℕ) (b i : ℕ) → b < block_count side → i < dof_of side b → get_or (column_blocks side) (offset_of side b + i) 0 ≡ b
+unfolding column_blocks
+number_at side b i h l =
+    rw (← numbers_length (λ b _. b) side b) (gather-at 0 (λ b. list_of (λ _. b) (dof_of side b)) b (block_count side) i h (rw (length-list_of (λ _. b) 0 (dof_of side b)) l))
+    ∙ get_or-list_of (λ _. b) 0 (dof_of side b) i l
 
 -- ---- the loop over blocks: b of them are through, pair is the next as the code read it, and its numbers begin at place `at`
 

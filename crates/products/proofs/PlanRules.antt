@@ -17,7 +17,7 @@ use Rattle.columns.specs.declared.refusal.Side.{Side}
 use Rattle.columns.specs.declared.refusal.Side.TheVariants.{Kept, Eliminated}
 use Rattle.columns.specs.Refusals as refusals
 use Rattle.products.specs.Side.{eliminated, side_number}
-use Rattle.products.specs.PlanCheck.{rows_only, row_out, ends_out, in_column, narrowed, shape_out, shape_out_at, rows_out_at, rows_stop, rows_stop_at, span_out, span_out_at, Risen, SomeThere, FewThere, EntriesThere, StartsThere, SpansThere, ChunkThere, ChunksThere, PlanThere}
+use Rattle.products.specs.PlanCheck.{rows_only, chunk_rows_out, row_out, ends_out, in_column, narrowed, shape_out, shape_out_at, rows_out_at, rows_stop, rows_stop_at, span_out, span_out_at, Risen, SomeThere, FewThere, EntriesThere, StartsThere, SpansThere, ChunkThere, ChunksThere, PlanThere}
 
 or_none : (b : Bool) → (b || false) ≡ b
 or_none true = refl
@@ -28,21 +28,6 @@ or_true true = refl
 or_true false = refl
 
 -- ---- places
-
--- places 0 up to n of one test are places a up to a + n of another
-module _ (f g : ℕ → Bool) (a : ℕ) where
-  moved_from : (m i : ℕ) → ((k : ℕ) → k < i + m → f k ≡ g (a + k)) → some f i (i + m) ≡ some g (a + i) (a + i + m)
-  moved_from zero i e = some_none f i (i + 0) (omega arith) ∙ sym (some_none g (a + i) (a + i + 0) (omega arith))
-  moved_from (suc m) i e =
-      let x : i + 1 + m ≡ i + suc m = omega arith in
-      let y : a + (i + 1) ≡ a + i + 1 = omega arith in
-      let z : a + i + 1 + m ≡ a + i + suc m = omega arith in
-      some_first f i (i + suc m) (omega arith)
-      ∙ rw (e i (omega arith)) (ap (λ (b : Bool). g (a + i) || b) (rw (x, y, z) at (moved_from m (i + 1) (λ k h. e k (omega arith)))))
-      ∙ sym (some_first g (a + i) (a + i + suc m) (omega arith))
-
-  some_moved : (n : ℕ) → ((k : ℕ) → k < n → f k ≡ g (a + k)) → some f 0 n ≡ some g a (a + n)
-  some_moved n e = rw (zero-add, add-zero) at (moved_from n 0 (λ k h. e k (omega arith)))
 
 part-at : (l : List ℕ) (a n k : ℕ) → k < n → get_or (take n (drop a l)) k 0 ≡ get_or l (a + k) 0
 part-at l a n k h = get_or-take n (drop a l) k 0 h ∙ get_or-drop a l k 0
@@ -275,8 +260,18 @@ module _ (rows : List ℕ) (from end : ℕ) (lo hi : List ℕ) where
   unfolding rows_out_at
   span_told k a b t z p q e u = rw (← p, ← q) (sym e ∙ u)
 
-pub run_read : (n : ℕ) (lo hi : List ℕ) → EntriesThere n lo hi → (k a b : ℕ) → k < length lo → a ≡ get_or lo k 0 → b ≡ get_or hi k 0 → RunThere n a b
-run_read n lo hi there k a b h x y = rw (x, y) (there.each k h)
+module _ (n : ℕ) (lo hi : List ℕ) (at last : ℕ) (r : EntriesThere n lo hi at last) where
+  pub run_at_lem : (k : ℕ) → at ≤ k → k < last → RunThere n (get_or lo k 0) (get_or hi k 0)
+  run_at_lem k l h = r.each k l h
+
+  pub run_read : (k a b : ℕ) → at ≤ k → k < last → a ≡ get_or lo k 0 → b ≡ get_or hi k 0 → RunThere n a b
+  run_read k a b l h e f = rw (e, f) (r.each k l h)
+
+  pub runs_from : (k : ℕ) → at ≤ k → EntriesThere n lo hi k last
+  runs_from k l = record { lo-there = r.lo-there; hi-there = r.hi-there; each = λ i p q. r.each i (omega arith) q }
+
+  pub runs_later : (k : ℕ) → at ≤ k → EntriesThere n lo hi (k + 1) last
+  runs_later k l = runs_from (k + 1) (omega arith)
 
 -- ---- spans
 
@@ -356,14 +351,15 @@ module _ (rows : List ℕ) (from end dof : ℕ) (lo hi local : List ℕ) where
       spans-rows u f =
           f ∙ rw (first_same (rows_out_at rows from end lo hi) (span_out_at rows from end dof lo hi local) at last (λ i l h. sym (span_splits i ∙ rw (past_none shape at last (sym e ∙ q) i l h))))
 
-      pub spans-run : SpansThere (length lo) (length hi) (length local) → at ≡ 0 → last ≡ length lo → EntriesThere (length rows) lo hi
+      pub spans-run : SpansThere (length lo) (length hi) (length local) last → EntriesThere (length rows) lo hi at last
       unfolding shape_out_at shape_out
-      spans-run s p z = record {
+      spans-run s = record {
+        lo-there = s.lo;
         hi-there = s.hi;
-        each = λ k h.
+        each = λ k l h.
             let a = get_or lo k 0 in
             let b = get_or hi k 0 in
-            let g = past_none shape at last (sym e ∙ q) k (omega arith) (omega arith) in
+            let g = past_none shape at last (sym e ∙ q) k l h in
             let x = or_false (ltb b a) (ltb (length rows) b || leb dof (get_or local k 0)) g in
             let y = or_false (ltb (length rows) b) (leb dof (get_or local k 0)) x.1 in
             record { order = ltb-false b a x.0; inside = ltb-false (length rows) b y.0 };
@@ -388,23 +384,23 @@ module _ (rows : List ℕ) (len c : ℕ) where
     unfolding span_out_at span_out span_bad
     span_is_bad k = rw (first_same (row_out rows (c * len) (c * len + len)) (entry_out (rows_only rows) len c) (get_or s.lo k 0) (get_or s.hi k 0) (λ p _ _. entry-is-out p))
 
-    -- from and last are what the code read, and lo, hi and local the spans from the one up to the other
-    pub chunk_told_lem : (from last : ℕ) (lo hi local : List ℕ) (t : Bool) → from ≡ get_or s.starts c 0 → last ≡ get_or s.starts (c + 1) 0
-        → ChunkThere len s.starts (length s.lo) (length s.hi) (length s.local) c
-        → lo ≡ take (last - from) (drop from s.lo) → hi ≡ take (last - from) (drop from s.hi) → local ≡ take (last - from) (drop from s.local)
-        → t ≡ some (span_out_at rows (c * len) (c * len + len) dof lo hi local) 0 (length lo) → t ≡ chunk_bad (rows_only rows) dof len s c
-    unfolding chunk_bad span_out_at
-    chunk_told_lem from last lo hi local t p q there x y z e =
-        let n = last - from in
-        let g : length lo ≡ n = ap length x ∙ length-part s.lo from n (omega (arith, there.lo, there.rise)) in
-        let u : from + n ≡ last = omega (arith, there.rise) in
-        let w : some (span_out_at rows (c * len) (c * len + len) dof lo hi local) 0 n ≡ some (span_bad (rows_only rows) dof len s c) from (from + n) =
-        some_moved (span_out_at rows (c * len) (c * len + len) dof lo hi local) (span_bad (rows_only rows) dof len s c) from n
-        (λ k h. rw (x, y, z, part-at s.lo from n k h, part-at s.hi from n k h, part-at s.local from n k h) (span_is_bad (from + k))) in
-        e ∙ ap (λ (k : ℕ). some (span_out_at rows (c * len) (c * len + len) dof lo hi local) 0 k) g ∙ w ∙ rw (u, p, q)
+    -- first and last are what the code read
+    pub chunk_told_lem : (first last : ℕ) (t : Bool) → first ≡ get_or s.starts c 0 → last ≡ get_or s.starts (c + 1) 0
+        → t ≡ some (span_out_at rows (c * len) (c * len + len) dof s.lo s.hi s.local) first last → t ≡ chunk_bad (rows_only rows) dof len s c
+    unfolding chunk_bad
+    chunk_told_lem first last t p q e =
+        e ∙ rw (p, q, first_same (span_out_at rows (c * len) (c * len + len) dof s.lo s.hi s.local) (span_bad (rows_only rows) dof len s c) (get_or s.starts c 0) (get_or s.starts (c + 1) 0) (λ k _ _. span_is_bad k))
 
 pub chunk_window : (len : ℕ) (starts : List ℕ) (nlo nhi nlocal c : ℕ) → ChunkThere len starts nlo nhi nlocal c → c * len + len ≤ 4_294_967_295
 chunk_window len starts nlo nhi nlocal c h = h.small
+
+pub chunk_rows_told : (rows : List ℕ) (len c : ℕ) (s : Spread) (first last : ℕ) (t : Bool) → first ≡ get_or s.starts c 0 → last ≡ get_or s.starts (c + 1) 0
+    → t ≡ some (rows_out_at rows (c * len) (c * len + len) s.lo s.hi) first last → t ≡ chunk_rows_out rows len s c
+unfolding chunk_rows_out
+chunk_rows_told rows len c s first last t p q e = e ∙ rw (p, q)
+
+pub chunk_spans_lem : (len : ℕ) (starts : List ℕ) (nlo nhi nlocal c last : ℕ) → ChunkThere len starts nlo nhi nlocal c → last ≡ get_or starts (c + 1) 0 → SpansThere nlo nhi nlocal last
+chunk_spans_lem len starts nlo nhi nlocal c last h e = rw e h.spans
 
 pub chunk_at_lem : {len chunks : ℕ} {starts : List ℕ} {nlo nhi nlocal c : ℕ} → ChunksThere len chunks starts nlo nhi nlocal → c < chunks → ChunkThere len starts nlo nhi nlocal c
 chunk_at_lem {c = c} h l = h.each c l
@@ -486,10 +482,7 @@ module _ (len chunks : ℕ) (starts : List ℕ) (nlo nhi nlocal : ℕ) (p : Plan
             record {
               there = omega (arith, p.starts);
               small = omega (arith, p.small);
-              rise = r.rises c h;
-              lo = w;
-              hi = rw p.hi w;
-              local = rw p.local w;
+              spans = record { lo = w; hi = rw p.hi w; local = rw p.local w };
             };
       }
 
@@ -497,19 +490,71 @@ side_told : (side : Side) → refusals.side_number side ≡ side_number (elimina
 side_told Kept = refl
 side_told Eliminated = refl
 
+-- where the starts rise, the spans' shapes and the chunks' rows tell whether a chunk is bad
+module _ (rows : List ℕ) (dof len chunks : ℕ) (s : Spread) (r : Rising s.starts chunks (length s.lo)) where
+  abbrev shapes : ℕ → Bool
+  shapes = shape_out_at (length rows) dof s.lo s.hi s.local
+
+  span_bad_by : (c k : ℕ) → span_bad (rows_only rows) dof len s c k ≡ (shapes k || rows_out_at rows (c * len) (c * len + len) s.lo s.hi k)
+  span_bad_by c k = sym (span_is_bad rows len c dof s k) ∙ span_splits rows (c * len) (c * len + len) dof s.lo s.hi s.local k
+
+  -- a span whose shape is bad lies in a chunk, which is bad then
+  shape_in_chunk : some shapes 0 (length s.lo) ≡ true → some (chunk_bad (rows_only rows) dof len s) 0 chunks ≡ true
+  unfolding chunk_bad
+  shape_in_chunk e =
+      let k = first shapes 0 (length s.lo) in
+      let h = ltb-true k (length s.lo) e in
+      let b = rising_find s.starts chunks (length s.lo) r k h in
+      let z : span_bad (rows_only rows) dof len s b.chunk k ≡ true = span_bad_by b.chunk k ∙ rw (first_bad shapes 0 (length s.lo) h) in
+      some_at (chunk_bad (rows_only rows) dof len s) 0 chunks b.chunk (omega arith) b.there
+      (some_at (span_bad (rows_only rows) dof len s b.chunk) (get_or s.starts b.chunk 0) (get_or s.starts (b.chunk + 1) 0) k b.low b.high z)
+
+  -- without one a chunk is bad by its rows alone
+  module _ (e : some shapes 0 (length s.lo) ≡ false) where
+    chunk_by_rows : (c : ℕ) → c < chunks → chunk_rows_out rows len s c ≡ chunk_bad (rows_only rows) dof len s c
+    unfolding chunk_bad chunk_rows_out
+    chunk_by_rows c h =
+        let w = rising_within s.starts chunks (length s.lo) r (c + 1) (omega arith) in
+        rw (first_same (rows_out_at rows (c * len) (c * len + len) s.lo s.hi) (span_bad (rows_only rows) dof len s c) (get_or s.starts c 0) (get_or s.starts (c + 1) 0)
+        (λ k l g. sym (span_bad_by c k ∙ rw (past_none shapes 0 (length s.lo) e k (omega arith) (omega (arith, g, w))))))
+
+    chunks_by_rows : some (chunk_rows_out rows len s) 0 chunks ≡ some (chunk_bad (rows_only rows) dof len s) 0 chunks
+    chunks_by_rows = rw (first_same (chunk_rows_out rows len s) (chunk_bad (rows_only rows) dof len s) 0 chunks (λ c _ h. chunk_by_rows c h))
+
 module _ (side : Side) (m : Columns) (dof len chunks : ℕ) (s : Spread) (t : Bool) (call : t ≡ starts_bad chunks s.starts (length s.lo)) where
-  pub plan-falls : t ≡ true → tell 13 (refusals.side_number side ∷ []) ≡ spans_told (eliminated side) m dof len chunks s
+  pub plan-falls : (n : ℕ) → t ≡ true → n ≡ refusals.side_number side → tell 13 (n ∷ []) ≡ spans_told (eliminated side) m dof len chunks s
   unfolding plan_bad starts_bad
-  plan-falls q = rw (sym call ∙ q, side_told side)
+  plan-falls n q e = rw (sym call ∙ q, e, side_told side)
 
   module _ (q : t ≡ false) (u : Bool) (chunk : u ≡ some (chunk_bad m dof len s) 0 chunks) where
-    pub plan-out : u ≡ true → tell 13 (refusals.side_number side ∷ []) ≡ spans_told (eliminated side) m dof len chunks s
+    pub plan-out : (n : ℕ) → u ≡ true → n ≡ refusals.side_number side → tell 13 (n ∷ []) ≡ spans_told (eliminated side) m dof len chunks s
     unfolding plan_bad starts_bad
-    plan-out z = rw (sym call ∙ q, ← chunk, z, side_told side)
+    plan-out n z e = rw (sym call ∙ q, ← chunk, z, e, side_told side)
 
     pub plan-done : u ≡ false → done ≡ spans_told (eliminated side) m dof len chunks s
     unfolding plan_bad starts_bad
     plan-done z = rw (sym call ∙ q, ← chunk, z)
+
+-- v is what was told of the shapes, and u of the rows
+module _ (side : Side) (rows : List ℕ) (dof len chunks : ℕ) (s : Spread) (t : Bool) (call : t ≡ starts_bad chunks s.starts (length s.lo)) (q : t ≡ false)
+    (v : Bool) (shape : v ≡ some (shape_out_at (length rows) dof s.lo s.hi s.local) 0 (length s.lo)) where
+  pub shapes-out : (n : ℕ) → v ≡ true → n ≡ refusals.side_number side → tell 13 (n ∷ []) ≡ spans_told (eliminated side) (rows_only rows) dof len chunks s
+  shapes-out n z e =
+      plan-out side (rows_only rows) dof len chunks s t call q true
+      (sym (shape_in_chunk rows dof len chunks s (starts-rise chunks s.starts (length s.lo) (sym call ∙ q)) (sym shape ∙ z))) n refl e
+
+  pub entries_in_all : v ≡ false → SpansThere (length s.lo) (length s.hi) (length s.local) (length s.lo) → EntriesThere (length rows) s.lo s.hi 0 (length s.lo)
+  entries_in_all z there = spans-run rows 0 0 dof s.lo s.hi s.local 0 (length s.lo) v shape z there
+
+  module _ (p : v ≡ false) (u : Bool) (chunk : u ≡ some (chunk_rows_out rows len s) 0 chunks) where
+    by_rows : u ≡ some (chunk_bad (rows_only rows) dof len s) 0 chunks
+    by_rows = chunk ∙ chunks_by_rows rows dof len chunks s (starts-rise chunks s.starts (length s.lo) (sym call ∙ q)) (sym shape ∙ p)
+
+    pub rows-out : (n : ℕ) → u ≡ true → n ≡ refusals.side_number side → tell 13 (n ∷ []) ≡ spans_told (eliminated side) (rows_only rows) dof len chunks s
+    rows-out n z e = plan-out side (rows_only rows) dof len chunks s t call q u by_rows n z e
+
+    pub rows-done : u ≡ false → done ≡ spans_told (eliminated side) (rows_only rows) dof len chunks s
+    rows-done z = plan-done side (rows_only rows) dof len chunks s t call q u by_rows z
 
 pub ruleset planning = (
   rules,
@@ -535,7 +580,9 @@ pub ruleset planning = (
   stops_many,
   stops_ends,
   stops_rows,
+  run_at_lem,
   run_read,
+  runs_from,
   no_stop,
   span_told,
   narrow_more,
@@ -552,7 +599,8 @@ pub ruleset planning = (
   column-high,
   ends-out,
   no_rows-out,
-  chunk_told_lem,
+  chunk_rows_told,
+  chunk_spans_lem,
   chunk_at_lem,
   starts_first,
   starts_fall,
@@ -560,6 +608,7 @@ pub ruleset planning = (
   plan-starts,
   plan_chunks,
   plan-falls,
-  plan-out,
-  plan-done,
+  shapes-out,
+  rows-out,
+  rows-done,
 )

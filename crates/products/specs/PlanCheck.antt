@@ -5,6 +5,7 @@ use Rattle.std.specs.Prelude.{Option, MatchOption}
 use Rattle.ground.specs.First.{some, None}
 use Rattle.columns.specs.Columns.{Columns, columns_of, first_in, end_in}
 use Rattle.columns.specs.Unchecked.{RunThere}
+use Rattle.plan.specs.Spans.{Spread}
 
 -- columns of which the rows alone count
 abbrev pub rows_only : List ℕ → Columns
@@ -44,6 +45,11 @@ narrowed n = cond (nat_lt 4_294_967_295 n) 4_294_967_295 n
 unfoldable pub rows_out_at : List ℕ → ℕ → ℕ → List ℕ → List ℕ → ℕ → Bool
 rows_out_at rows from end lo hi k = some (row_out rows from end) (slice_index lo k) (slice_index hi k)
 
+-- a span of chunk c has one
+unfoldable pub chunk_rows_out : List ℕ → ℕ → Spread → ℕ → Bool
+chunk_rows_out rows len s c =
+    some (rows_out_at rows (c * len) (c * len + len) s.lo s.hi) (slice_index s.starts c) (slice_index s.starts (c + 1))
+
 -- one is, or there are none, or more than six
 unfoldable pub rows_stop : List ℕ → ℕ → ℕ → ℕ → ℕ → Bool
 rows_stop rows from end a b = nat_le b a || (nat_lt 6 (b - a) || some (row_out rows from end) a b)
@@ -76,24 +82,23 @@ pub record FewThere (more a b : ℕ) : Type 0 where
 pub record StartsThere (n chunks : ℕ) : Type 0 where
   pub there : n ≡ chunks + 1
 
--- the lists of some spans have one length
-pub record SpansThere (nlo nhi nlocal : ℕ) : Type 0 where
-  pub hi : nhi ≡ nlo
-  pub local : nlocal ≡ nlo
+-- spans before `last` are there
+pub record SpansThere (nlo nhi nlocal last : ℕ) : Type 0 where
+  pub lo : last ≤ nlo
+  pub hi : last ≤ nhi
+  pub local : last ≤ nlocal
 
--- so have those of where their entries begin and end, and these are among n
-pub record EntriesThere (n : ℕ) (lo hi : List ℕ) : Type 0 where
-  pub hi-there : length hi ≡ length lo
-  pub each : (k : ℕ) → k < length lo → RunThere n (slice_index lo k) (slice_index hi k)
+-- so are those from `first` on, and their entries among n
+pub record EntriesThere (n : ℕ) (lo hi : List ℕ) (first last : ℕ) : Type 0 where
+  pub lo-there : last ≤ length lo
+  pub hi-there : last ≤ length hi
+  pub each : (k : ℕ) → first ≤ k → k < last → RunThere n (slice_index lo k) (slice_index hi k)
 
--- the spans of chunk c are there, and its end is a list number
+-- so are those of chunk c, and its end is a list number
 pub record ChunkThere (len : ℕ) (starts : List ℕ) (nlo nhi nlocal c : ℕ) : Type 0 where
   pub there : c + 1 < length starts
   pub small : c * len + len ≤ 4_294_967_295
-  pub rise : slice_index starts c ≤ slice_index starts (c + 1)
-  pub lo : slice_index starts (c + 1) ≤ nlo
-  pub hi : slice_index starts (c + 1) ≤ nhi
-  pub local : slice_index starts (c + 1) ≤ nlocal
+  pub spans : SpansThere nlo nhi nlocal (slice_index starts (c + 1))
 
 -- so are those of each chunk
 pub record ChunksThere (len chunks : ℕ) (starts : List ℕ) (nlo nhi nlocal : ℕ) : Type 0 where

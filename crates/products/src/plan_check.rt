@@ -1,5 +1,5 @@
-// Refusal 13: a plan as it is lent. Its spans are looked at chunk by chunk, so a chunk's first row and its size are found once for all of them.
-// What the rows do not tell is looked at first, in a pass without a branch. Then the rows: most spans have a few entries, and are looked at from
+// Refusal 13: a plan as it is lent. What the rows of its spans do not tell is looked at first, in a pass over all spans without a branch. Then the rows,
+// chunk by chunk, so that a chunk's first row and its size are found once for all of its spans: most spans have a few entries, and are looked at from
 // both ends, in a small loop. Rows rise along a column, so a longer span that lies in one column is told by its first and its last row. Its column
 // is guessed, from the span before or by halves, and the guess is tested: a span that crosses columns, as a plan from elsewhere may have, is
 // looked at entry by entry.
@@ -9,7 +9,7 @@ ghost use Rattle.std.specs.Prelude.{◌≡◌, ◌+◌, ◌<◌, length};
 ghost use Rattle.ground.specs.First.{first, some};
 ghost use Rattle.columns.specs.Refusals.{told};
 ghost use Rattle.columns.specs.Unchecked.{RunThere};
-ghost use Rattle.products.specs.Orders.{starts_bad, spans_told, chunk_bad};
+ghost use Rattle.products.specs.Orders.{starts_bad, spans_told};
 ghost use Rattle.products.specs.Side.{eliminated};
 ghost use Rattle.plan.specs.LentSpans.{spread_lent};
 ghost use Rattle.products.specs.PlanCheck.{
@@ -21,12 +21,11 @@ ghost use Rattle.products.specs.PlanCheck.{
   shape_out_at,
   rows_out_at,
   rows_stop_at,
+  chunk_rows_out,
   Found,
-  span_out_at,
   Risen,
   EntriesThere,
   StartsThere,
-  SpansThere,
   ChunkThere,
   ChunksThere,
   PlanThere,
@@ -40,7 +39,7 @@ use columns::refusal::Refusal;
 use ground::wide;
 use plan::lent::Spans;
 
-// The last column that begins at place a or before it, by halves.
+// The last column that begins at place a or before it, by halves; where a is the entry count, one past the last column.
 fn find_column(ptrs: &[u32], a: usize) -> usize {
     ptrs.partition_point(|p| wide(*p) <= a).saturating_sub(1)
 }
@@ -84,26 +83,26 @@ fn rows_out(window: Window<'_>, j: usize, a: usize, b: usize) -> bool
     window.some_row_out(a, b)
 }
 
-// The first of the spans from place `at` on that has a row outside the window or not a few entries. Good spans of a few, most of them, are passed in this
-// small loop.
-fn next_stop(window: Window<'_>, lo: &[u32], hi: &[u32], at: usize) -> Option<usize>
-    requires { EntriesThere (length window.columns.rows.now) lo.now hi.now }
+// The first of spans `at` up to `last` that has a row outside the window or not a few entries. Good spans of a few, most of them, are passed in this small
+// loop. Spans are told by their places in the whole lists: a chunk of one or two spans costs less so than with parts of its own.
+fn next_stop(window: Window<'_>, lo: &[u32], hi: &[u32], at: usize, last: usize) -> Option<usize>
+    requires { EntriesThere (length window.columns.rows.now) lo.now hi.now at last }
     ensures { let w = window.entry in
-        Found (rows_stop_at w.columns.rows.now w.from (w.from + w.size) lo.now hi.now) at (length lo.now) result }
+        Found (rows_stop_at w.columns.rows.now w.from (w.from + w.size) lo.now hi.now) at last result }
 {
-    (at..lo.len()).find(|k| window.rows_stop(lo[*k], hi[*k]))
+    (at..last).find(|k| window.rows_stop(lo[*k], hi[*k]))
 }
 
-// Whether one of the spans that begin at lo and end at hi has a row outside the window.
-fn some_rows_out(window: Window<'_>, lo: &[u32], hi: &[u32]) -> bool
+// Whether one of spans `first` up to `last` has a row outside the window.
+fn some_rows_out(window: Window<'_>, lo: &[u32], hi: &[u32], first: usize, last: usize) -> bool
     requires risen { Risen window.columns.ptrs.now window.columns.rows.now }
-    requires entries_there { EntriesThere (length window.columns.rows.now) lo.now hi.now }
+    requires entries_there { EntriesThere (length window.columns.rows.now) lo.now hi.now first last }
     ensures { let w = window.entry in
-        result ≡ some (rows_out_at w.columns.rows.now w.from (w.from + w.size) lo.now hi.now) 0 (length lo.now) }
+        result ≡ some (rows_out_at w.columns.rows.now w.from (w.from + w.size) lo.now hi.now) first last }
 {
     let mut j = 0;
-    let mut at = 0;
-    while let Some(k) = next_stop(window, lo, hi, at) {
+    let mut at = first;
+    while let Some(k) = next_stop(window, lo, hi, at, last) {
         let a = wide(lo[k]);
         let b = wide(hi[k]);
         j = guess_column(window.columns, j, a, b);
@@ -130,40 +129,30 @@ fn shape_bad(n: usize, dof: usize, a: u32, b: u32, l: u32) -> bool
     (b < a) | ((narrow(n) < b) | (narrow(dof - 1) < l))
 }
 
-// Whether one of some spans does. All are looked at, so that the compiler can take several at a time.
-fn some_shape_bad(n: usize, dof: usize, lo: &[u32], hi: &[u32], local: &[u32]) -> bool
-    requires { SpansThere (length lo.now) (length hi.now) (length local.now) }
-    ensures { result ≡ some (shape_out_at n dof lo.now hi.now local.now) 0 (length lo.now) }
+// Whether one of a plan's spans does. No chunk is asked, so all of them are looked at in one pass, of which the compiler can take several at a time.
+fn some_shape_bad(n: usize, dof: usize, spans: Spans<'_>) -> bool
+    requires hi_there { length spans.hi.now ≡ length spans.lo.now }
+    requires local_there { length spans.local.now ≡ length spans.lo.now }
+    ensures { let s = spans.entry in result ≡ some (shape_out_at n dof s.lo.now s.hi.now s.local.now) 0 (length s.lo.now) }
 {
     if dof == 0 {
-        return !lo.is_empty();
+        return !spans.lo.is_empty();
     }
     let mut bad = false;
-    for ((a, b), l) in lo.iter().zip(hi).zip(local) {
-        bad |= shape_bad(n, dof, *a, *b, *l);
+    // By place: over a zip of the three lists the compiler asks at each turn whether one has ended, and takes no two at a time.
+    for k in 0..spans.lo.len() {
+        bad |= shape_bad(n, dof, spans.lo[k], spans.hi[k], spans.local[k]);
     }
     bad
 }
 
-// Whether one of some spans is bad: first what their rows do not tell.
-fn some_span_bad(window: Window<'_>, dof: usize, lo: &[u32], hi: &[u32], local: &[u32]) -> bool
-    requires risen { Risen window.columns.ptrs.now window.columns.rows.now }
-    requires spans_there { SpansThere (length lo.now) (length hi.now) (length local.now) }
-    ensures { let w = window.entry in
-        result ≡ some (span_out_at w.columns.rows.now w.from (w.from + w.size) dof lo.now hi.now local.now) 0 (length lo.now) }
-{
-    if some_shape_bad(window.columns.rows.len(), dof, lo, hi, local) {
-        return true;
-    }
-    some_rows_out(window, lo, hi)
-}
-
-// Whether chunk c has a bad span.
-fn chunk_bad(columns: Columns<'_>, dof: usize, len: usize, spans: Spans<'_>, c: usize) -> bool
+// Whether a span of chunk c has a row that is none of the chunk's.
+fn chunk_rows_out(columns: Columns<'_>, len: usize, spans: Spans<'_>, c: usize) -> bool
     requires risen { Risen columns.ptrs.now columns.rows.now }
     requires chunk_there { ChunkThere len spans.starts.now (length spans.lo.now) (length spans.hi.now) (length spans.local.now) c }
+    requires entries_there { EntriesThere (length columns.rows.now) spans.lo.now spans.hi.now 0 (length spans.lo.now) }
     ensures { let lent = spread_lent spans.entry in
-        result ≡ chunk_bad (rows_only columns.entry.rows.now) dof len lent c }
+        result ≡ chunk_rows_out columns.entry.rows.now len lent c }
 {
     let window = Window {
         columns,
@@ -172,25 +161,17 @@ fn chunk_bad(columns: Columns<'_>, dof: usize, len: usize, spans: Spans<'_>, c: 
     };
     let first = wide(spans.starts[c]);
     let last = wide(spans.starts[c + 1]);
-    let lo = &spans.lo[first..last];
-    let hi = &spans.hi[first..last];
-    let local = &spans.local[first..last];
-    some_span_bad(window, dof, lo, hi, local)
+    some_rows_out(window, spans.lo, spans.hi, first, last)
 }
 
-fn some_chunk_bad(
-    columns: Columns<'_>,
-    dof: usize,
-    len: usize,
-    chunks: usize,
-    spans: Spans<'_>,
-) -> bool
+fn some_chunk_rows_out(columns: Columns<'_>, len: usize, chunks: usize, spans: Spans<'_>) -> bool
     requires risen { Risen columns.ptrs.now columns.rows.now }
     requires chunks_there { ChunksThere len chunks spans.starts.now (length spans.lo.now) (length spans.hi.now) (length spans.local.now) }
+    requires entries_there { EntriesThere (length columns.rows.now) spans.lo.now spans.hi.now 0 (length spans.lo.now) }
     ensures { let lent = spread_lent spans.entry in
-        result ≡ some (chunk_bad (rows_only columns.entry.rows.now) dof len lent) 0 chunks }
+        result ≡ some (chunk_rows_out columns.entry.rows.now len lent) 0 chunks }
 {
-    (0..chunks).any(|c| chunk_bad(columns, dof, len, spans, c))
+    (0..chunks).any(|c| chunk_rows_out(columns, len, spans, c))
 }
 
 // Whether the starts do not rise from 0 to the span count n without falling.
@@ -222,10 +203,19 @@ pub(crate) fn check_plan(
         told result ≡ spans_told (eliminated side) (rows_only columns.entry.rows.now) dof len chunks lent }
 {
     if starts_bad(spans.starts, chunks, spans.lo.len()) {
-        return Err(Refusal::BadPlan { side });
+        return Err(Refusal::BadPlan {
+            side: side.number(),
+        });
     }
-    if some_chunk_bad(columns, dof, len, chunks, spans) {
-        return Err(Refusal::BadPlan { side });
+    if some_shape_bad(columns.rows.len(), dof, spans) {
+        return Err(Refusal::BadPlan {
+            side: side.number(),
+        });
+    }
+    if some_chunk_rows_out(columns, len, chunks, spans) {
+        return Err(Refusal::BadPlan {
+            side: side.number(),
+        });
     }
     Ok(())
 }

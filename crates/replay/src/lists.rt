@@ -53,10 +53,13 @@ impl<'a> Iterator for Lists<'a> {
 // The most numbers that a list may have.
 const MOST: usize = 512;
 
+// More lists than a case of any kind has: past so many none is gathered, since a case that is malformed may have as many as the file has words.
+const TOO_MANY: usize = 13;
+
 // The lists of a case; none where anything else is in it, or one is too long.
 pub(crate) fn all_lists(alloc: Global, lists: &[u64]) -> Result<Vec<&[u64]>, AllocError> {
     let mut left = Lists(lists);
-    let mut lists = left.by_ref().collect::<Vec<&[u64]>>(alloc)?;
+    let mut lists = left.by_ref().take(TOO_MANY).collect::<Vec<&[u64]>>(alloc)?;
     if !left.0.is_empty() || lists.iter().any(|list| list.len() > MOST) {
         lists.clear();
     }

@@ -43,10 +43,13 @@ impl<'a> Iterator for Lists<'a> {
     }
 }
 
+// More lists than a case has: past so many none is gathered, since a case that is malformed may have as many as the file has words.
+const TOO_MANY: usize = 25;
+
 // The lists of a case; none where anything else is in it.
 pub(crate) fn all_lists(alloc: Global, case: &[u32]) -> Result<Vec<&[u32]>, AllocError> {
     let mut left = Lists(case);
-    let mut lists = left.by_ref().collect::<Vec<&[u32]>>(alloc)?;
+    let mut lists = left.by_ref().take(TOO_MANY).collect::<Vec<&[u32]>>(alloc)?;
     if !left.0.is_empty() {
         lists.clear();
     }

@@ -11,7 +11,7 @@ mod tally;
 mod unplanned;
 
 use std::alloc::AllocError;
-use std::io::Read;
+use std::io::{ErrorKind, Read};
 use std::rt::Files;
 use std::{fs, io};
 use tally::replay_list;
@@ -22,14 +22,19 @@ const MOST_BYTES: u64 = 1_000_004;
 // The three programs that replay have this alike: a library's public function needs a promise that determines its outcome (tests/promises.sh),
 // and what reads a file has none.
 //
-// Replays the list in the file `name`, and writes its line. A read that fails is the end of the file. There is more than a list where bytes are
+// Replays the list in the file `name`, and writes its line. A read that fails is the end of the file, but memory that is refused ends the program: what
+// was read by then is no list to count. There is more than a list where bytes are
 // left that make no word, or where as many were read as may be.
 fn replay_file(rt: &(impl Files + Print + AllocGlobal), name: &str) -> io::Result<()> {
     let Ok(file) = fs::open(rt, name) else {
         return println!(rt; "{name}: cannot be opened");
     };
     let mut bytes = Vec::new(rt.alloc());
-    let _ = file.take(MOST_BYTES).read_to_end(&mut bytes);
+    if let Err(e) = file.take(MOST_BYTES).read_to_end(&mut bytes) {
+        if e.kind() == ErrorKind::OutOfMemory {
+            return Err(e);
+        }
+    }
     let (words, rest) = bytes.as_chunks::<4>();
     let words: Vec<u32> = words
         .iter()

@@ -1,17 +1,16 @@
 -- `blocks::block_values::damp_blocks` takes a block a turn. Assumes nothing.
-use Rattle.std.proofs.Common.{◌≡◌, ◌+◌, ap, ◌∙◌, refl, arith}
+use Rattle.std.proofs.Common.{ap, ◌∙◌, refl, arith}
 use Rattle.ground.proofs.RangeLaws.{turn, done}
-use Rattle.columns.specs.Lent.{seen}
 use Rattle.blocks.specs.BlockList.{blocks_of}
 use Rattle.blocks.specs.BlockValues.{damp_block}
 use Rattle.blocks.proofs.BlockListLaws.{all_left, taken, none_left_of}
 use Rattle.blocks.proofs.AccessRules.{squares_first}
-use Rattle.blocks.proofs.ValueRules.{values-fit, block-fits, squares_after, blocks_turn, blocks-done, damp_turn}
+use Rattle.blocks.proofs.ValueRules.{values-fit, squares_after, damp_turn}
 use Rattle.blocks.proofs.block_values.damp_blocks.Goals as goal
 
 pub loop-block-init : goal.loop-block-init
 loop-block-init c =
-    let a = all_left _ _ (ap (λ i. blocks_of i.rest.now) c.into_iter-block-iterator.ensures.into_iter_gives ∙ c.blocks_of-block-items.ensures) in
+    let a = all_left _ _ (ap (λ i. blocks_of i.rest.now) c.into_iter-block-iterator.ensures.into_iter_gives ∙ ap (λ r. blocks_of r.now) c.blocks_of-block-items.ensures) in
     (a.0, rw a.1 (squares_first _), refl, rw a.1)
 
 pub damp_block-requires : goal.damp_block-requires

@@ -1,5 +1,5 @@
 -- `plan_check::some_rows_out` meets its contract: the spans between two that it stops at are good. Assumes nothing.
-use Rattle.std.proofs.Common.{◌+◌, length, arith}
+use Rattle.std.proofs.Common.{◌+◌, arith}
 use Rattle.ground.proofs.FirstLaws.{some_goes, some_stops}
 use Rattle.products.proofs.PlanRules.{from_stop, no_stop, span_told}
 use Rattle.products.proofs.plan_check.some_rows_out.Goals as goal
@@ -23,4 +23,4 @@ loop-k-preserved c =
 pub returns : goal.returns
 returns c =
     let w = c.args.window in
-    no_stop w.columns.rows.now w.from (w.from + w.size) c.args.lo.now c.args.hi.now c.loop-k.at (length c.args.lo.now) _ c.in_default.ensures c.loop-k.invariant.1
+    no_stop w.columns.rows.now w.from (w.from + w.size) c.args.lo.now c.args.hi.now c.loop-k.at c.args.last _ c.in_default.ensures c.loop-k.invariant.1

@@ -1,5 +1,5 @@
 -- `plan_check::some_rows_out` meets its contract. Assumes nothing.
-use Rattle.std.proofs.Common.{◌≡◌, ◌+◌, ◌-◌, ◌≤◌, length}
+use Rattle.std.proofs.Common.{◌≡◌, ◌+◌, ◌-◌, ◌≤◌}
 use Rattle.ground.specs.First.{some}
 use Rattle.products.specs.PlanCheck.{rows_out_at}
 use Rattle.products.proofs.plan_check.some_rows_out.Given as goal
@@ -7,7 +7,7 @@ use Rattle.products.proofs.plan_check.some_rows_out.Given as goal
 abbrev pub invariant-loop-k : goal.invariant-loop-k
 invariant-loop-k l =
     let bad = rows_out_at l.window.columns.rows.now l.window.from (l.window.from + l.window.size) l.lo l.hi in
-    (l.at ≤ length l.lo) × (some bad l.at (length l.lo) ≡ some bad 0 (length l.lo))
+    (l.first ≤ l.at) × (some bad l.at l.last ≡ some bad l.first l.last)
 
 abbrev pub decreases-loop-k : goal.decreases-loop-k
-decreases-loop-k l = length l.lo - l.at
+decreases-loop-k l = l.last - l.at

@@ -9,7 +9,7 @@ use Rattle.products.proofs.side_sums.gather_side.Goals as goal
 
 pub loop-block-init : goal.loop-block-init
 loop-block-init c =
-    let a = all_left _ _ (ap (λ i. blocks_of i.rest.now) c.into_iter-block-iterator.ensures.into_iter_gives ∙ c.blocks_of-block-items.ensures) in
+    let a = all_left _ _ (ap (λ i. blocks_of i.rest.now) c.into_iter-block-iterator.ensures.into_iter_gives ∙ ap (λ r. blocks_of r.now) c.blocks_of-block-items.ensures) in
     (a.0, rw a.1 (first-place _), refl, gather_start (over (length c.args.y.now) c.args.columns) c.args.side.now c.args.start c.args.y.now c.args.out.now c.requires.room)
 
 pub gather_block-requires : goal.gather_block-requires

@@ -10,7 +10,7 @@ use Rattle.products.proofs.side_sums.inverse_times.Goals as goal
 
 pub loop-block-init : goal.loop-block-init
 loop-block-init c =
-    let a = all_left _ _ (ap (λ i. blocks_of i.rest.now) c.into_iter-block-iterator.ensures.into_iter_gives ∙ c.blocks_of-block-items.ensures) in
+    let a = all_left _ _ (ap (λ i. blocks_of i.rest.now) c.into_iter-block-iterator.ensures.into_iter_gives ∙ ap (λ r. blocks_of r.now) c.blocks_of-block-items.ensures) in
     (a.0, rw a.1 (first-place _), rw a.1 (squares_first _), refl, rw a.1)
 
 pub inverse_block-requires : goal.inverse_block-requires

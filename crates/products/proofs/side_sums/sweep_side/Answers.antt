@@ -9,7 +9,7 @@ use Rattle.products.proofs.side_sums.sweep_side.Goals as goal
 
 pub loop-block-init : goal.loop-block-init
 loop-block-init c =
-    let a = all_left _ _ (ap (λ i. blocks_of i.rest.now) c.into_iter-block-iterator.ensures.into_iter_gives ∙ c.blocks_of-block-items.ensures) in
+    let a = all_left _ _ (ap (λ i. blocks_of i.rest.now) c.into_iter-block-iterator.ensures.into_iter_gives ∙ ap (λ r. blocks_of r.now) c.blocks_of-block-items.ensures) in
     (a.0, rw a.1 (first-place _), refl, sweep_start (over (length c.args.y.now) c.args.columns) c.args.side.now c.args.sign c.args.v.now c.args.y.now)
 
 pub sweep_block-requires : goal.sweep_block-requires
