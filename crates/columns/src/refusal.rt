@@ -43,7 +43,7 @@ pub enum Refusal {
     // the place among the lengths that the call takes
     WrongLength { place: usize, need: usize },
     BadDamping,
-    // the side's number likewise
+    // the side's number, 0 kept and 1 eliminated
     BadPlan { side: usize },
     BadSchedule { place: usize },
 }

@@ -50,6 +50,13 @@ module _ (bad : ℕ → Bool) where
           at i (yes h) p q = none i p h
           at i (no h) p q = past_none bad k hi e i (omega arith) q
 
+  -- what holds in the first part holds in the whole, and what does not is left out
+  pub some_part : (lo k hi : ℕ) → k ≤ hi → some bad lo k ≡ true → some bad lo hi ≡ true
+  some_part lo k hi l e = let h = ltb-true (first bad lo k) k e in some_at bad lo hi (first bad lo k) (first-low bad lo k) (omega (arith, h, l)) (first_bad bad lo k h)
+
+  pub some_past : (lo k hi : ℕ) → lo ≤ k → some bad lo k ≡ false → some bad k hi ≡ some bad lo hi
+  some_past lo k hi l e = some_from lo k hi l (past_none bad lo k e)
+
   -- the first and the last place, and those between them
   some-ends_of : (a b : ℕ) → a < b → some bad a b ≡ ((bad a || bad (b - 1)) || some bad (a + 1) (b - 1))
   some-ends_of a b h = go (bad a) refl (bad (b - 1)) refl (some bad (a + 1) (b - 1)) refl

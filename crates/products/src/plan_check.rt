@@ -26,6 +26,7 @@ ghost use Rattle.products.specs.PlanCheck.{
   Risen,
   EntriesThere,
   StartsThere,
+  SpansThere,
   ChunkThere,
   ChunksThere,
   PlanThere,
@@ -129,21 +130,42 @@ fn shape_bad(n: usize, dof: usize, a: u32, b: u32, l: u32) -> bool
     (b < a) | ((narrow(n) < b) | (narrow(dof - 1) < l))
 }
 
-// Whether one of a plan's spans does. No chunk is asked, so all of them are looked at in one pass, of which the compiler can take several at a time.
+// Whether one of spans `first` up to `last` runs back, past n entries, or has no place among `dof`. All are looked at, so that the compiler can take several
+// at a time.
+fn shapes_bad(n: usize, dof: usize, spans: Spans<'_>, first: usize, last: usize) -> bool
+    requires { SpansThere (length spans.lo.now) (length spans.hi.now) (length spans.local.now) last }
+    ensures { let s = spans.entry in result ≡ some (shape_out_at n dof s.lo.now s.hi.now s.local.now) first last }
+{
+    if dof == 0 {
+        return first < last;
+    }
+    let mut bad = false;
+    // By place: over a zip of the three lists the compiler asks at each turn whether one has ended, and takes no two at a time.
+    for k in first..last {
+        bad |= shape_bad(n, dof, spans.lo[k], spans.hi[k], spans.local[k]);
+    }
+    bad
+}
+
+// How many spans are looked at before one that is bad ends the pass.
+const AT_ONCE: usize = 4_096;
+
+// Whether one of all spans of a plan does. No chunk is asked, so a chunk of one span costs no more than its span.
 fn some_shape_bad(n: usize, dof: usize, spans: Spans<'_>) -> bool
     requires hi_there { length spans.hi.now ≡ length spans.lo.now }
     requires local_there { length spans.local.now ≡ length spans.lo.now }
     ensures { let s = spans.entry in result ≡ some (shape_out_at n dof s.lo.now s.hi.now s.local.now) 0 (length s.lo.now) }
 {
-    if dof == 0 {
-        return !spans.lo.is_empty();
+    let all = spans.lo.len();
+    let mut at = 0;
+    while at < all {
+        let end = at + AT_ONCE.min(all - at);
+        if shapes_bad(n, dof, spans, at, end) {
+            return true;
+        }
+        at = end;
     }
-    let mut bad = false;
-    // By place: over a zip of the three lists the compiler asks at each turn whether one has ended, and takes no two at a time.
-    for k in 0..spans.lo.len() {
-        bad |= shape_bad(n, dof, spans.lo[k], spans.hi[k], spans.local[k]);
-    }
-    bad
+    false
 }
 
 // Whether a span of chunk c has a row that is none of the chunk's.

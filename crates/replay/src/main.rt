@@ -24,8 +24,7 @@ const MOST_BYTES: u64 = 1_000_008;
 // and what reads a file has none.
 //
 // Replays the list in the file `name`, and writes its line. A read that fails is the end of the file, but memory that is refused ends the program: what
-// was read by then is no list to count. There is more than a list where bytes are
-// left that make no word, or where as many were read as may be.
+// was read by then is no list to count. There is more than a list where bytes are left that make no word, or where as many were read as may be.
 fn replay_file(rt: &(impl Files + Print + AllocGlobal), name: &str) -> io::Result<()> {
     let Ok(file) = fs::open(rt, name) else {
         return println!(rt; "{name}: cannot be opened");
