@@ -274,11 +274,11 @@ module _ (n : ℕ) (lo hi : List ℕ) (at last : ℕ) (r : EntriesThere n lo hi 
   pub run_read : (k a b : ℕ) → at ≤ k → k < last → a ≡ get_or lo k 0 → b ≡ get_or hi k 0 → RunThere n a b
   run_read k a b l h e f = rw (e, f) (r.each k l h)
 
-  pub runs_from : (k : ℕ) → at ≤ k → EntriesThere n lo hi k last
-  runs_from k l = record { lo-there = r.lo-there; hi-there = r.hi-there; each = λ i p q. r.each i (omega arith) q }
+  pub entries_from : (k : ℕ) → at ≤ k → EntriesThere n lo hi k last
+  entries_from k l = record { lo-there = r.lo-there; hi-there = r.hi-there; each = λ i p q. r.each i (omega arith) q }
 
   pub runs_later : (k : ℕ) → at ≤ k → EntriesThere n lo hi (k + 1) last
-  runs_later k l = runs_from (k + 1) (omega arith)
+  runs_later k l = entries_from (k + 1) (omega arith)
 
 -- ---- spans
 
@@ -545,23 +545,23 @@ module _ (side : Side) (m : Columns) (dof len chunks : ℕ) (s : Spread) (t : Bo
 -- v is what was told of the shapes, and u of the rows
 module _ (side : Side) (rows : List ℕ) (dof len chunks : ℕ) (s : Spread) (t : Bool) (call : t ≡ starts_bad chunks s.starts (length s.lo)) (q : t ≡ false)
     (v : Bool) (shape : v ≡ some (shape_out_at (length rows) dof s.lo s.hi s.local) 0 (length s.lo)) where
-  pub shapes-out : (n : ℕ) → v ≡ true → n ≡ refusals.side_number side → tell 13 (n ∷ []) ≡ spans_told (eliminated side) (rows_only rows) dof len chunks s
-  shapes-out n z e =
+  pub plan-misshapen : (n : ℕ) → v ≡ true → n ≡ refusals.side_number side → tell 13 (n ∷ []) ≡ spans_told (eliminated side) (rows_only rows) dof len chunks s
+  plan-misshapen n z e =
       plan-out side (rows_only rows) dof len chunks s t call q true
       (sym (shape_in_chunk rows dof len chunks s (starts-rise chunks s.starts (length s.lo) (sym call ∙ q)) (sym shape ∙ z))) n refl e
 
-  pub entries_in_all : v ≡ false → SpansThere (length s.lo) (length s.hi) (length s.local) (length s.lo) → EntriesThere (length rows) s.lo s.hi 0 (length s.lo)
-  entries_in_all z there = spans-run rows 0 0 dof s.lo s.hi s.local 0 (length s.lo) v shape z there
+  pub plan_entries : v ≡ false → SpansThere (length s.lo) (length s.hi) (length s.local) (length s.lo) → EntriesThere (length rows) s.lo s.hi 0 (length s.lo)
+  plan_entries z there = spans-run rows 0 0 dof s.lo s.hi s.local 0 (length s.lo) v shape z there
 
   module _ (p : v ≡ false) (u : Bool) (chunk : u ≡ some (chunk_rows_out rows len s) 0 chunks) where
     by_rows : u ≡ some (chunk_bad (rows_only rows) dof len s) 0 chunks
     by_rows = chunk ∙ chunks_by_rows rows dof len chunks s (starts-rise chunks s.starts (length s.lo) (sym call ∙ q)) (sym shape ∙ p)
 
-    pub rows-out : (n : ℕ) → u ≡ true → n ≡ refusals.side_number side → tell 13 (n ∷ []) ≡ spans_told (eliminated side) (rows_only rows) dof len chunks s
-    rows-out n z e = plan-out side (rows_only rows) dof len chunks s t call q u by_rows n z e
+    pub plan-strays : (n : ℕ) → u ≡ true → n ≡ refusals.side_number side → tell 13 (n ∷ []) ≡ spans_told (eliminated side) (rows_only rows) dof len chunks s
+    plan-strays n z e = plan-out side (rows_only rows) dof len chunks s t call q u by_rows n z e
 
-    pub rows-done : u ≡ false → done ≡ spans_told (eliminated side) (rows_only rows) dof len chunks s
-    rows-done z = plan-done side (rows_only rows) dof len chunks s t call q u by_rows z
+    pub plan-holds : u ≡ false → done ≡ spans_told (eliminated side) (rows_only rows) dof len chunks s
+    plan-holds z = plan-done side (rows_only rows) dof len chunks s t call q u by_rows z
 
 pub ruleset planning = (
   rules,
@@ -589,7 +589,7 @@ pub ruleset planning = (
   stops_rows,
   run_at_lem,
   run_read,
-  runs_from,
+  entries_from,
   no_stop,
   span_told,
   narrow_more,
@@ -615,7 +615,7 @@ pub ruleset planning = (
   plan-starts,
   plan_chunks,
   plan-falls,
-  shapes-out,
-  rows-out,
-  rows-done,
+  plan-misshapen,
+  plan-strays,
+  plan-holds,
 )

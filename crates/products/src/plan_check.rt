@@ -150,7 +150,7 @@ fn shapes_bad(n: usize, dof: usize, spans: Spans<'_>, first: usize, last: usize)
 // How many spans are looked at before one that is bad ends the pass.
 const AT_ONCE: usize = 4_096;
 
-// Whether one of all spans of a plan does. No chunk is asked, so a chunk of one span costs no more than its span.
+// Whether one of a plan's spans runs back, past n entries, or has no place among `dof`. No chunk is asked, so a chunk of one span costs no more than its span.
 fn some_shape_bad(n: usize, dof: usize, spans: Spans<'_>) -> bool
     requires hi_there { length spans.hi.now ≡ length spans.lo.now }
     requires local_there { length spans.local.now ≡ length spans.lo.now }
@@ -224,17 +224,10 @@ pub(crate) fn check_plan(
     ensures { let lent = spread_lent spans.entry in
         told result ≡ spans_told (eliminated side) (rows_only columns.entry.rows.now) dof len chunks lent }
 {
-    if starts_bad(spans.starts, chunks, spans.lo.len()) {
-        return Err(Refusal::BadPlan {
-            side: side.number(),
-        });
-    }
-    if some_shape_bad(columns.rows.len(), dof, spans) {
-        return Err(Refusal::BadPlan {
-            side: side.number(),
-        });
-    }
-    if some_chunk_rows_out(columns, len, chunks, spans) {
+    let bad = starts_bad(spans.starts, chunks, spans.lo.len())
+        || some_shape_bad(columns.rows.len(), dof, spans)
+        || some_chunk_rows_out(columns, len, chunks, spans);
+    if bad {
         return Err(Refusal::BadPlan {
             side: side.number(),
         });
