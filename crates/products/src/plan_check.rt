@@ -224,10 +224,18 @@ pub(crate) fn check_plan(
     ensures { let lent = spread_lent spans.entry in
         told result ≡ spans_told (eliminated side) (rows_only columns.entry.rows.now) dof len chunks lent }
 {
-    let bad = starts_bad(spans.starts, chunks, spans.lo.len())
-        || some_shape_bad(columns.rows.len(), dof, spans)
-        || some_chunk_rows_out(columns, len, chunks, spans);
-    if bad {
+    // Told at each test: one test of the three together takes 0.02 to 0.03 instructions of the operator an entry more.
+    if starts_bad(spans.starts, chunks, spans.lo.len()) {
+        return Err(Refusal::BadPlan {
+            side: side.number(),
+        });
+    }
+    if some_shape_bad(columns.rows.len(), dof, spans) {
+        return Err(Refusal::BadPlan {
+            side: side.number(),
+        });
+    }
+    if some_chunk_rows_out(columns, len, chunks, spans) {
         return Err(Refusal::BadPlan {
             side: side.number(),
         });
